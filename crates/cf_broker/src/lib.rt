@@ -9,8 +9,8 @@
 mod broker;
 mod change;
 mod links;
-mod parts;
 mod locked_shard;
+mod parts;
 mod quarter;
 mod words;
 

@@ -2,8 +2,8 @@
 ghost use Rattle.std.specs.Prelude.{◌≡◌, ◌+◌, vec_len};
 ghost use Rattle.cf_shard.specs.Shards.{names};
 
-use crate::parts::{Part, last_place};
 use crate::locked_shard::LockedShard;
+use crate::parts::{Part, last_place};
 use crate::words::NewWord;
 use cf_shard::Naming;
 use cf_stream::Epochs;

@@ -16,17 +16,22 @@ module _ {T : Type 0} where
   refused_not o x none = subst (λ (o : Option ClientFault). RefusedBy {T = T} o (Ok x)) (sym none) tt
 
   -- nothing speaks against it, and memory was refused
-  pub refused_memory : (o : Option ClientFault) (r : Result T ClientFault) → o ≡ None → IsErrAnd r (λ (fault : ClientFault). fault ≡ Memory) → RefusedBy o r
+  pub refused_memory : (o : Option ClientFault) (r : Result T ClientFault) → o ≡ None
+      → IsErrAnd r (λ (fault : ClientFault). fault ≡ Memory) → RefusedBy o r
   refused_memory o (Ok x) none h = absurd h
   refused_memory o (Err fault) none h = subst (λ (o : Option ClientFault). RefusedBy {T = T} o (Err fault)) (sym none) h
 
   -- it was refused for what speaks against it
-  pub refused_as : (o : Option ClientFault) (r : Result T ClientFault) (why : ClientFault) → o ≡ Some why → IsErrAnd r (λ (fault : ClientFault). fault ≡ why) → RefusedBy o r
+  pub refused_as : (o : Option ClientFault) (r : Result T ClientFault) (why : ClientFault) → o ≡ Some why
+      → IsErrAnd r (λ (fault : ClientFault). fault ≡ why) → RefusedBy o r
   refused_as o (Ok x) why is h = absurd h
-  refused_as o (Err fault) why is h = subst (λ (o : Option ClientFault). RefusedBy {T = T} o (Err fault)) (sym is) (ap (λ (f : ClientFault). let refused : Result T ClientFault = Err f in refused) h)
+  refused_as o (Err fault) why is h =
+      subst (λ (o : Option ClientFault). RefusedBy {T = T} o (Err fault)) (sym is)
+      (ap (λ (f : ClientFault). let refused : Result T ClientFault = Err f in refused) h)
 
   -- an error for which the reason holds
-  pub refused_if : (r : Result T ClientFault) (why : ClientFault) (P : ClientFault → Type 0) → IsErrAnd r (λ (fault : ClientFault). fault ≡ why) → P why → IfErr r P
+  pub refused_if : (r : Result T ClientFault) (why : ClientFault) (P : ClientFault → Type 0)
+      → IsErrAnd r (λ (fault : ClientFault). fault ≡ why) → P why → IfErr r P
   refused_if (Ok x) why P h p = absurd h
   refused_if (Err fault) why P h p = subst P (sym h) p
 

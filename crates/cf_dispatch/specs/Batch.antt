@@ -1,5 +1,6 @@
 -- What is taken from a node's hub for the sessions that it names, one after another. (This project's own profile.)
-use Rattle.std.specs.Prelude.{◌≡◌, ◌↔◌, ◌≤◌, ◌<◌, ◌==◌, ◌⊎◌, ℕ, ◌+◌, Bool, IsFalse, IsTrue, Some, None, Option, List, [], ◌∷◌}
+use Rattle.std.specs.Prelude.{◌≡◌, ◌↔◌, ◌≤◌, ◌<◌, ◌==◌, ◌⊎◌, ℕ, ◌+◌, Bool, IsFalse, IsTrue, Some, None, Option, List}
+use Rattle.std.specs.Prelude.{[], ◌∷◌}
 use Rattle.std.specs.Prelude.{length}
 use Rattle.std.specs.List.{count_by}
 use Rattle.cf_hub.specs.Hub.{IsNextTurn, Node, attached_at}

@@ -1,5 +1,6 @@
 -- What is taken from a node's hub for a client. (This project's own profile.)
-use Rattle.std.specs.Prelude.{◌≡◌, ◌≤◌, ◌==◌, ◌+◌, ◌&&◌, ◌⊎◌, ℕ, Bool, true, false, ◌++◌, List, length, map, Option, Some, None, option_map}
+use Rattle.std.specs.Prelude.{◌≡◌, ◌≤◌, ◌==◌, ◌+◌, ◌&&◌, ◌⊎◌, ℕ, Bool, true, false, ◌++◌, List, length, map, Option}
+use Rattle.std.specs.Prelude.{Some, None, option_map}
 use Rattle.std.specs.Prelude.{sum_by}
 use Rattle.std.specs.Global.{Global}
 use Rattle.std.specs.VecDeque.{deque_capacity, deque_len}

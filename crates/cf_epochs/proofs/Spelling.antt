@@ -1,5 +1,6 @@
 -- The epochs of two sources, or of one at two counts, differ.
-use Rattle.std.proofs.Common.{◌≡◌, ◌≢◌, ℕ, ◌+◌, ◌^◌, ◌≤◌, ◌<◌, true, List, [], ◌∷◌, ◌++◌, length, refl, sym, ap, ◌∙◌, arith, inl, inr, length-append, append_assoc, rules}
+use Rattle.std.proofs.Common.{◌≡◌, ◌≢◌, ℕ, ◌+◌, ◌^◌, ◌≤◌, ◌<◌, true, List, [], ◌∷◌, ◌++◌, length, refl, sym, ap, ◌∙◌}
+use Rattle.std.proofs.Common.{arith, inl, inr, length-append, append_assoc, rules}
 use Rattle.std.specs.Fmt.{decimal}
 use Rattle.std.specs.Str.Parse.{AllDigits}
 use Rattle.std.specs.List.{All, AllPairs, list_all}
@@ -41,12 +42,14 @@ source x y z = record { boot = x; shard = y; count = z }
 
 same_source : (s t : Source) → s.boot ≡ t.boot → s.shard ≡ t.shard → s.count ≡ t.count → s ≡ t
 same_source s t b n c =
-    let of_fields : (x y z : ℕ) → x ≡ t.boot → y ≡ t.shard → z ≡ t.count → source x y z ≡ source t.boot t.shard t.count = λ x y z p q r. rw (p, q, r) refl in
+    let of_fields : (x y z : ℕ) → x ≡ t.boot → y ≡ t.shard → z ≡ t.count
+    → source x y z ≡ source t.boot t.shard t.count = λ x y z p q r. rw (p, q, r) refl in
     of_fields s.boot s.shard s.count b n c
 
 pub told_apart : (s t : Source) → IsSource s → IsSource t → epoch_at s ≡ epoch_at t → s ≡ t
 told_apart s t h k e =
-    let first = cut (decimal s.boot) (decimal t.boot) (decimal s.shard ++ 120 ∷ decimal s.count) (decimal t.shard ++ 120 ∷ decimal t.count)
+    let first = cut (decimal s.boot) (decimal t.boot) (decimal s.shard ++ 120 ∷ decimal s.count)
+    (decimal t.shard ++ 120 ∷ decimal t.count)
     (digits_of s.boot (omega arith)) (digits_of t.boot (omega arith)) e in
     let second = cut (decimal s.shard) (decimal t.shard) (decimal s.count) (decimal t.count)
     (digits_of s.shard (omega arith)) (digits_of t.shard (omega arith)) first.1 in
@@ -153,7 +156,8 @@ given s t (e ∷ es) g =
 between : (s t : Source) → IsSource t → s.boot ≡ t.boot → s.shard ≡ t.shard → s.count ≤ t.count → IsSource s
 between s t h b n c = (rw b h.0, rw n h.1, omega arith)
 
-is_source : (s t : Source) (es : List (List ℕ)) (e : List ℕ) → IsSource t → Gives s es t → (g : Given s t e) → IsSource g.at
+is_source : (s t : Source) (es : List (List ℕ)) (e : List ℕ) → IsSource t → Gives s es t → (g : Given s t e)
+    → IsSource g.at
 is_source s t es e h gives g =
     let on = leads s t es gives in
     between g.at t h (g.boot ∙ sym on.boot) (g.shard ∙ sym on.shard) g.within
@@ -171,12 +175,14 @@ never_twice s t (e ∷ es) h g =
     absurd (omega arith) in
     AllPairs-cons ◌≢◌ e es differs (never_twice g.0 t es h g.2)
 
-pub never_both : (s t u v : Source) (es fs : List (List ℕ)) → AreOthers s u → IsSource t → IsSource v → Gives s es t → Gives u fs v → All (λ e. All (λ f. e ≢ f) fs) es
+pub never_both : (s t u v : Source) (es fs : List (List ℕ)) → AreOthers s u → IsSource t → IsSource v → Gives s es t
+    → Gives u fs v → All (λ e. All (λ f. e ≢ f) fs) es
 never_both s t u v es fs apart h k g i =
     λ n d l m x o twice.
     let one = given s t es g n d l in
     let other = given u v fs i m x o in
-    let same = told_apart one.at other.at (is_source s t es _ h g one) (is_source u v fs _ k i other) (sym one.is ∙ twice ∙ other.is) in
+    let same = told_apart one.at other.at (is_source s t es _ h g one) (is_source u v fs _ k i other)
+    (sym one.is ∙ twice ∙ other.is) in
     elim apart [
       | inl boots ↦ boots (sym one.boot ∙ ap (λ w. w.boot) same ∙ other.boot)
       | inr shards ↦ shards (sym one.shard ∙ ap (λ w. w.shard) same ∙ other.shard)

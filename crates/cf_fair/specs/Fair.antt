@@ -262,7 +262,8 @@ WaitsBriefly =
     → has_turn p during ≡ false → has_ended p during ≡ false → has_ended q during ≡ false
     → Stepped during old new → spent q during ≤ (due - time_at old q) + spent_lately q during
 
--- The same by p's own excess: p comes, light, and q has used up its time to the clock. What q is charged until p has its
+-- The same by p's own excess: p comes, light, and q has used up its time to the clock. What q is charged until p has
+-- its
 -- turn is no more than that by which p's virtual time is above the clock, what p's turn is expected to cost, and what
 -- one turn of q cost.
 abbrev pub WaitsByExcess : Type 0

@@ -1,5 +1,6 @@
 -- The values of the lines with one name.
-use Rattle.std.proofs.Common.{◌≡◌, ◌<◌, ℕ, true, List, [], ◌∷◌, length, get_or, drop, Option, None, Some, is_some, Bor, refl, sym, ap}
+use Rattle.std.proofs.Common.{◌≡◌, ◌<◌, ℕ, true, List, [], ◌∷◌, length, get_or, drop, Option, None, Some, is_some, Bor}
+use Rattle.std.proofs.Common.{refl, sym, ap}
 use Rattle.std.proofs.lemmas.List.{drop_more}
 use Rattle.httparse.specs.Spans.{span_bytes}
 use Rattle.httparse.specs.declared.spans.HeaderSpan.{HeaderSpan}
@@ -20,5 +21,6 @@ two_values (Some value) all (other ∷ others) found here more = sym (ap only_of
 
 -- a line with the name is among those from it on
 pub named_from : (head name : List ℕ) (lines : List HeaderSpan) (i : ℕ) (other : HeaderSpan) → i < length lines
-    → eq_ignore_case (span_bytes head (get_or lines i other).name) name ≡ true → has_line (fields_of head (drop i lines)) name ≡ true
+    → eq_ignore_case (span_bytes head (get_or lines i other).name) name ≡ true
+    → has_line (fields_of head (drop i lines)) name ≡ true
 named_from head name lines i other inside same = rw (drop_more lines i other inside, same) refl

@@ -5,7 +5,7 @@ ghost use Rattle.httparse.specs.Spans.{IsHeaderWithin, IsWithin, span_bytes};
 ghost use Rattle.websocket.specs.Headers.{fields_of};
 ghost use Rattle.cf_handshake.specs.Asks.{Asks, AsksByKey, IsUnread, IsWhole, asked_plainly, has_host, has_version, is_upgrade, request, request_of};
 
-use crate::answer::{Opening, HandshakeError};
+use crate::answer::{HandshakeError, Opening};
 use crate::lines::{Case, has_line, lists, only_value};
 use httparse::Status;
 use httparse::spans::{EMPTY_HEADER_SPAN, HeaderSpan, RequestSpans, parse_request};

@@ -6,5 +6,5 @@ mod answer;
 mod asked;
 mod lines;
 
-pub use answer::{Opening, HandshakeError, health_answer};
+pub use answer::{HandshakeError, Opening, health_answer};
 pub use asked::{HeadAsk, asked_of};

@@ -1,6 +1,7 @@
 -- Which requests ask for a node's health otherwise than by `GET`, and what they are answered. (RFC 9110, 9.3.2, 10.2.1
 -- and 15.5.6.)
-use Rattle.std.specs.Prelude.{◌≤◌, ℕ, Bool, true, false, cond, not, ◌||◌, List, [], length, codes, bytes_eq, Option, None, Some}
+use Rattle.std.specs.Prelude.{◌≤◌, ℕ, Bool, true, false, cond, not, ◌||◌, List, [], length, codes, bytes_eq, Option}
+use Rattle.std.specs.Prelude.{None, Some}
 use Rattle.httparse.specs.Grammar.{RequestHead, ReadsRequest}
 use Rattle.websocket.specs.Headers.{field_line}
 use Rattle.cf_handshake.specs.Answers.{closing_text}

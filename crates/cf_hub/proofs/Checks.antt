@@ -1,10 +1,12 @@
 -- What a position check makes of a session.
-use Rattle.std.proofs.Common.{◌≡◌, ◌≢◌, ◌⊎◌, inl, inr, Bool, true, Option, Some, None, List, ℕ, refl, sym, ap, ◌∙◌, subst, option_map, is_some}
+use Rattle.std.proofs.Common.{◌≡◌, ◌≢◌, ◌⊎◌, inl, inr, Bool, true, Option, Some, None, List, ℕ, refl, sym, ap, ◌∙◌}
+use Rattle.std.proofs.Common.{subst, option_map, is_some}
 use Rattle.cf_protocol.specs.Position.{Position}
 use Rattle.cf_queue.specs.OutQueue.{OutQueue, Item, Text, Close}
 use Rattle.cf_hub.specs.Checked.{answer_of, check_answer, mark_after, marked, place_of, stand_of}
 use Rattle.cf_model.specs.Recovery.{Checked, Fine, Behind, Ended, position_check}
-use Rattle.cf_model.specs.Sessions.{Subscription, Off, Asked, Ready, On, SessionState, by_check, check_at, checks, closes, is_off, no_memory, push, put_sub}
+use Rattle.cf_model.specs.Sessions.{Subscription, Off, Asked, Ready, On, SessionState, by_check, check_at, checks}
+use Rattle.cf_model.specs.Sessions.{closes, is_off, no_memory, push, put_sub}
 use Rattle.cf_hub.specs.Subscriptions.{SetsAt, Subscriptions, progress_at, sub_of}
 use Rattle.cf_hub.specs.WantOfMemory.{ClosesWith, OrCloses}
 use Rattle.cf_hub.specs.Wordings.{Held, end_text, plain}
@@ -35,7 +37,8 @@ one_answer Behind Ended e = absurd (cc)
 one_answer Ended Fine e = absurd (cc)
 one_answer Ended Behind e = absurd (cc)
 
-module _ (c : List ℕ) (top : Option Position) (m n : Subscriptions) (q : OutQueue) (a : Answer) (sets : SetsAt m n c (option_map (marked a) (progress_at m c))) (is : a ≡ check_answer top (subs_of m c)) where
+module _ (c : List ℕ) (top : Option Position) (m n : Subscriptions) (q : OutQueue) (a : Answer)
+    (sets : SetsAt m n c (option_map (marked a) (progress_at m c))) (is : a ≡ check_answer top (subs_of m c)) where
   abbrev old : SessionState Held Item
   old = with_queue (subs_of m) q
 
@@ -43,11 +46,15 @@ module _ (c : List ℕ) (top : Option Position) (m n : Subscriptions) (q : OutQu
   same o e h = same_state m n c q (subst (λ w. SetsAt m n c w) e h)
 
   -- all is well, or there was nothing to check
-  goes_on : (o : Option Progress) → o ≡ progress_at m c → SetsAt m n c (option_map (marked a) o) → a ≡ check_answer top (sub_of o) → a ≢ answer.Ended → with_queue (subs_of n) q ≡ check_at plain c top (sub_of o) old
+  goes_on : (o : Option Progress) → o ≡ progress_at m c → SetsAt m n c (option_map (marked a) o)
+      → a ≡ check_answer top (sub_of o) → a ≢ answer.Ended
+      → with_queue (subs_of n) q ≡ check_at plain c top (sub_of o) old
   goes_on None e h is going = same None e h
   goes_on (Some (code.Asked id since waiting)) e h is going = same (Some (code.Asked id since waiting)) e h
-  goes_on (Some (code.Ready id was recovery waiting)) e h is going = same (Some (code.Ready id was recovery waiting)) e h
-  goes_on (Some (code.On at mark)) e h is going = put_state m n c (Some (code.On at (mark_after a at))) q h ∙ by_answer (position_check top at mark) is
+  goes_on (Some (code.Ready id was recovery waiting)) e h is going =
+      same (Some (code.Ready id was recovery waiting)) e h
+  goes_on (Some (code.On at mark)) e h is going =
+      put_state m n c (Some (code.On at (mark_after a at))) q h ∙ by_answer (position_check top at mark) is
     where
       by_answer : (v : Checked) → a ≡ answer_of v → put_sub c (On at (mark_after a at)) old ≡ by_check plain c at v old
       by_answer Fine e = ap (λ b. put_sub c (On at (mark_after b at)) old) e
@@ -58,23 +65,30 @@ module _ (c : List ℕ) (top : Option Position) (m n : Subscriptions) (q : OutQu
   checked going = goes_on (progress_at m c) refl sets is going
 
   -- it ends, whatever its mark is
-  ends : (o : Option Progress) → SetsAt m n c (option_map (marked a) o) → a ≡ check_answer top (sub_of o) → a ≡ answer.Ended
-      → (check_at plain c top (sub_of o) old ≡ push plain (Text (end_text c)) (put_sub c Off old)) × (put_sub c Off (with_queue (subs_of n) q) ≡ put_sub c Off old)
+  ends : (o : Option Progress) → SetsAt m n c (option_map (marked a) o) → a ≡ check_answer top (sub_of o)
+      → a ≡ answer.Ended
+      → (check_at plain c top (sub_of o) old ≡ push plain (Text (end_text c)) (put_sub c Off old))
+      × (put_sub c Off (with_queue (subs_of n) q) ≡ put_sub c Off old)
   ends None h is e = absurd (let other = sym is ∙ e in cc)
   ends (Some (code.Asked id since waiting)) h is e = absurd (let other = sym is ∙ e in cc)
   ends (Some (code.Ready id was recovery waiting)) h is e = absurd (let other = sym is ∙ e in cc)
   ends (Some (code.On at mark)) h is e = (
     ap (λ v. by_check plain c at v old) (one_answer (position_check top at mark) Ended (sym is ∙ e)),
-    ap (put_sub c Off) (put_state m n c (Some (code.On at (mark_after a at))) q h) ∙ with_twice c Off (On at (mark_after a at)) old,
+    ap (put_sub c Off) (put_state m n c (Some (code.On at (mark_after a at))) q h)
+        ∙ with_twice c Off (On at (mark_after a at)) old,
   )
 
-  pub left : a ≡ answer.Ended → (mid : SessionState Held Item) → mid ≡ put_sub c Off (with_queue (subs_of n) q) → mid ≡ put_sub c Off old
+  pub left : a ≡ answer.Ended → (mid : SessionState Held Item) → mid ≡ put_sub c Off (with_queue (subs_of n) q)
+      → mid ≡ put_sub c Off old
   left e mid h = h ∙ (ends (progress_at m c) sets is e).1
 
   -- an unsubscribe push is said, or the session is closed
-  pub ended : a ≡ answer.Ended → (r : Bool) (mid b : SessionState Held Item) → mid ≡ put_sub c Off (with_queue (subs_of n) q)
-      → (b ≡ push plain (Text (end_text c)) mid) ⊎ ((r ≡ true) × ClosesWith (Close no_memory) mid b) → OrCloses r plain (checks plain c top) old b
-  ended e r mid b h (inl says) = inl (says ∙ ap (push plain (Text (end_text c))) (left e mid h) ∙ sym (ends (progress_at m c) sets is e).0)
+  pub ended : a ≡ answer.Ended → (r : Bool) (mid b : SessionState Held Item)
+      → mid ≡ put_sub c Off (with_queue (subs_of n) q)
+      → (b ≡ push plain (Text (end_text c)) mid) ⊎ ((r ≡ true) × ClosesWith (Close no_memory) mid b)
+      → OrCloses r plain (checks plain c top) old b
+  ended e r mid b h (inl says) =
+      inl (says ∙ ap (push plain (Text (end_text c))) (left e mid h) ∙ sym (ends (progress_at m c) sets is e).0)
   ended e r mid b h (inr closes_it) =
       inr (
         closes_it.0,
@@ -85,10 +99,13 @@ module _ (c : List ℕ) (top : Option Position) (m n : Subscriptions) (q : OutQu
       )
 
   -- a mark turns nothing off
-  stays : (d : List ℕ) (o : Option Progress) → o ≡ progress_at m c → SetsAt m n c (option_map (marked a) o) → is_off (subs_of n d) ≡ is_off (subs_of m d)
+  stays : (d : List ℕ) (o : Option Progress) → o ≡ progress_at m c → SetsAt m n c (option_map (marked a) o)
+      → is_off (subs_of n d) ≡ is_off (subs_of m d)
   stays d None e h = ap (λ (x : SessionState Held Item). is_off (x.subs d)) (same None e h)
-  stays d (Some (code.Asked id since waiting)) e h = ap (λ (x : SessionState Held Item). is_off (x.subs d)) (same (Some (code.Asked id since waiting)) e h)
-  stays d (Some (code.Ready id was recovery waiting)) e h = ap (λ (x : SessionState Held Item). is_off (x.subs d)) (same (Some (code.Ready id was recovery waiting)) e h)
+  stays d (Some (code.Asked id since waiting)) e h =
+      ap (λ (x : SessionState Held Item). is_off (x.subs d)) (same (Some (code.Asked id since waiting)) e h)
+  stays d (Some (code.Ready id was recovery waiting)) e h =
+      ap (λ (x : SessionState Held Item). is_off (x.subs d)) (same (Some (code.Ready id was recovery waiting)) e h)
   stays d (Some (code.On at mark)) e h =
       ap (λ (x : SessionState Held Item). is_off (x.subs d)) (put_state m n c (Some (code.On at (mark_after a at))) q h)
       ∙ puts_off c d (On at (mark_after a at)) old refl (ap (λ o. is_off (sub_of o)) (sym e))

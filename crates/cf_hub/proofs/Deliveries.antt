@@ -1,5 +1,7 @@
 -- A delivery on its way along the sessions of its channel.
-use Rattle.std.proofs.Common.{◌≡◌, ◌≢◌, ◌⊎◌, inl, inr, ℕ, ◌+◌, ◌==◌, ◌≤◌, ◌<◌, not, Bool, true, false, if◌then◌else◌, Option, Some, None, List, [], ◌∷◌, ◌++◌, length, arith, refl, sym, ap, ◌∙◌, subst, is_some}
+use Rattle.std.proofs.Common.{◌≡◌, ◌≢◌, ◌⊎◌, inl, inr, ℕ, ◌+◌, ◌==◌, ◌≤◌, ◌<◌, not, Bool, true, false, if◌then◌else◌}
+use Rattle.std.proofs.Common.{Option, Some, None, List, [], ◌∷◌, ◌++◌, length, arith, refl, sym, ap, ◌∙◌, subst}
+use Rattle.std.proofs.Common.{is_some}
 use Rattle.std.proofs.lemmas.Bool.Decides.{Decides-eqb, nat_tests}
 use Rattle.std.proofs.lemmas.List.{length-append}
 use Rattle.cf_protocol.specs.Datum.{Placed}
@@ -19,15 +21,18 @@ use Rattle.cf_hub.specs.Turns.{Turns, get_turns, gets_turn}
 use Rattle.cf_hub.specs.WantOfMemory.{Both}
 use Rattle.cf_hub.specs.Wordings.{Held, at_offset, delivering}
 use Rattle.cf_hub.proofs.Rows.{has, Once, follows_has, once_sessions, few_sessions}
-use Rattle.cf_hub.proofs.Walks.{has_append, middle, off_at, once_before, still_agrees, tally_snoc, tally_same, total_more, twice}
+use Rattle.cf_hub.proofs.Walks.{has_append, middle, off_at, once_before, still_agrees, tally_snoc, tally_same}
+use Rattle.cf_hub.proofs.Walks.{total_more, twice}
 use Rattle.cf_hub.proofs.Hubs.{counted_both}
 
 abbrev Sessions : Type 0
 Sessions = ℕ → Option Attached
 
--- the sessions that were passed were served, each once, and all others are as they were; the rows stay, and while nothing ended
+-- the sessions that were passed were served, each once, and all others are as they were; the rows stay, and while
+-- nothing ended
 -- they agree
-pub record IsOnItsWay (p : Placed) (c e : List ℕ) (old : Node) (now : Sessions) (refused : ℕ) (pending : Turns) (counts : Delivered) (done todo : List ℕ) : Type 0 where
+pub record IsOnItsWay (p : Placed) (c e : List ℕ) (old : Node) (now : Sessions) (refused : ℕ) (pending : Turns)
+    (counts : Delivered) (done todo : List ℕ) : Type 0 where
   pub hit : List ℕ
   pub requests : ℕ
   pub few_hit : length hit ≤ requests
@@ -43,14 +48,16 @@ pub record IsOnItsWay (p : Placed) (c e : List ℕ) (old : Node) (now : Sessions
 
 -- ---- at first
 
-on_none : (p : Placed) (c : List ℕ) (q : Position) (s : Subscription Held) (l : SessionState Held Item) → l.subs c ≡ s → is_off s ≡ true → l ≡ come_at (delivering p) c q (l.subs c) l
+on_none : (p : Placed) (c : List ℕ) (q : Position) (s : Subscription Held) (l : SessionState Held Item) → l.subs c ≡ s
+    → is_off s ≡ true → l ≡ come_at (delivering p) c q (l.subs c) l
 on_none p c q Off l e h = sym (ap (λ s. come_at (delivering p) c q s l) e)
 on_none p c q (Asked id since b) l e h = absurd (cc)
 on_none p c q (Ready id was r b) l e h = absurd (cc)
 on_none p c q (On at mark) l e h = absurd (cc)
 
 -- who does not follow the channel is served by doing nothing
-no_subscriber : (refused : Bool) (p : Placed) (c e : List ℕ) (o : Option Attached) → is_off (sub_in o c) ≡ true → Both (Brings refused c e p) o o
+no_subscriber : (refused : Bool) (p : Placed) (c e : List ℕ) (o : Option Attached) → is_off (sub_in o c) ≡ true
+    → Both (Brings refused c e p) o o
 no_subscriber refused p c e None h = tt
 no_subscriber refused p c e (Some a) h = (inl (on_none p c (at_offset e p) (a.state.subs c) a.state refl h), refl)
 
@@ -66,7 +73,8 @@ within : (n : ℕ) → n ≤ 18446744073709551615 → n ≡ counted 0 n
 within n h = omega (arith, h)
 
 pub starts : (p : Placed) (c e : List ℕ) (old : Node) (now : Sessions) (refused : ℕ) (pending : Turns)
-    → attached_at old ≡ now → refused ≡ old.refused → pending ≡ old.turns → Agrees now old.rows → refused ≤ largest → IsOnItsWay p c e old now refused pending none [] (sessions_of old.rows c)
+    → attached_at old ≡ now → refused ≡ old.refused → pending ≡ old.turns → Agrees now old.rows → refused ≤ largest
+    → IsOnItsWay p c e old now refused pending none [] (sessions_of old.rows c)
 starts p c e old now refused pending is was had agrees small =
     record {
       hit = [];
@@ -105,11 +113,13 @@ pub hit_few : (r : Bool) (k : ℕ) (hit : List ℕ) (n : ℕ) → length hit ≤
 hit_few true k hit n h = omega (arith, h)
 hit_few false k hit n h = omega (arith, h)
 
-pub hit_before : (r : Bool) (k j : ℕ) (hit : List ℕ) → is_in j (hit_more r k hit) ≡ true → (j == k) ≡ false → is_in j hit ≡ true
+pub hit_before : (r : Bool) (k j : ℕ) (hit : List ℕ) → is_in j (hit_more r k hit) ≡ true → (j == k) ≡ false
+    → is_in j hit ≡ true
 hit_before true k j hit m e = grind (arith, nat_tests, m, e)
 hit_before false k j hit m e = m
 
-pub wider : (p : Placed) (c e : List ℕ) (s t : Bool) → (s ≡ true → t ≡ true) → (a b : Option Attached) → Both (Brings s c e p) a b → Both (Brings t c e p) a b
+pub wider : (p : Placed) (c e : List ℕ) (s t : Bool) → (s ≡ true → t ≡ true) → (a b : Option Attached)
+    → Both (Brings s c e p) a b → Both (Brings t c e p) a b
 wider p c e s t w None None h = tt
 wider p c e s t w None (Some b) h = absurd h
 wider p c e s t w (Some a) None h = absurd h
@@ -117,7 +127,8 @@ wider p c e s t w (Some a) (Some b) (inl h, g) = (inl h, g)
 wider p c e s t w (Some a) (Some b) (inr h, g) = (inr (w h.0, h.1), g)
 
 -- whether nothing ended so far
-quiet_before : (f : Fate) (d : Delivered) → (one_more f d).ended + (one_more f d).closed ≡ 0 → (d.ended + d.closed ≡ 0) × ((f ≡ fate.Passed) ⊎ ((f ≡ fate.Kept) ⊎ (f ≡ fate.Dropped)))
+quiet_before : (f : Fate) (d : Delivered) → (one_more f d).ended + (one_more f d).closed ≡ 0 → (d.ended + d.closed ≡ 0)
+    × ((f ≡ fate.Passed) ⊎ ((f ≡ fate.Kept) ⊎ (f ≡ fate.Dropped)))
 quiet_before fate.Passed d h = (h, inl refl)
 quiet_before fate.Kept d h = (h, inr (inl refl))
 quiet_before fate.Dropped d h = (h, inr (inr refl))
@@ -143,20 +154,26 @@ apart j k ks h g = by_value (j == k) (Decides-eqb j k)
 snoc_length : (j : ℕ) (ks : List ℕ) → length (ks ++ j ∷ []) ≡ length ks + 1
 snoc_length j ks = omega (arith, length-append ks (j ∷ []))
 
-module _ (p : Placed) (c e : List ℕ) (old : Node) (now new : Sessions) (k : ℕ) (hit : Bool) (f : Fate) (here : Both (Brings hit c e p) (now k) (new k)) (others : (j : ℕ) → j ≢ k → new j ≡ now j) (fate_is : f ≡ fate_at c (at_offset e p) (now k) (new k)) where
+module _ (p : Placed) (c e : List ℕ) (old : Node) (now new : Sessions) (k : ℕ) (hit : Bool) (f : Fate)
+    (here : Both (Brings hit c e p) (now k) (new k)) (others : (j : ℕ) → j ≢ k → new j ≡ now j)
+    (fate_is : f ≡ fate_at c (at_offset e p) (now k) (new k)) where
   other : (j : ℕ) → (j == k) ≡ false → j ≢ k
   other j h g = let i = (Decides-eqb j k).1 g in absurd (cc)
 
   still_quiet : Agrees now old.rows → (g : Fate) → f ≡ g → Agrees new (rows_after g c k old.rows)
-  still_quiet agrees g is = subst (λ i. Agrees new (rows_after i c k old.rows)) (sym fate_is ∙ is) (still_agrees c e k hit p now new old.rows agrees here others)
+  still_quiet agrees g is =
+      subst (λ i. Agrees new (rows_after i c k old.rows)) (sym fate_is ∙ is)
+      (still_agrees c e k hit p now new old.rows agrees here others)
 
   stays_quiet : Agrees now old.rows → ((f ≡ fate.Passed) ⊎ ((f ≡ fate.Kept) ⊎ (f ≡ fate.Dropped))) → Agrees new old.rows
   stays_quiet agrees (inl is) = still_quiet agrees fate.Passed is
   stays_quiet agrees (inr (inl is)) = still_quiet agrees fate.Kept is
   stays_quiet agrees (inr (inr is)) = still_quiet agrees fate.Dropped is
 
-  pub steps : {refused more : ℕ} {pending turned : Turns} (counts : Delivered) (done rest : List ℕ) → AreFollows old.rows → IsOnItsWay p c e old now refused pending counts done (k ∷ rest)
-      → more ≡ counted (one_if hit) refused → turned ≡ gets_turn k pending → IsOnItsWay p c e old new more turned (one_more f counts) (done ++ k ∷ []) rest
+  pub steps : {refused more : ℕ} {pending turned : Turns} (counts : Delivered) (done rest : List ℕ)
+      → AreFollows old.rows → IsOnItsWay p c e old now refused pending counts done (k ∷ rest)
+      → more ≡ counted (one_if hit) refused → turned ≡ gets_turn k pending
+      → IsOnItsWay p c e old new more turned (one_more f counts) (done ++ k ∷ []) rest
   steps {refused} {more} {pending} {turned} counts done rest rows w count turns =
       let once : Once (done ++ k ∷ rest) = subst Once w.all (once_sessions old.rows c rows.once) in
       let passed : has k done ≡ false = once_before k done rest once in
@@ -168,29 +185,46 @@ module _ (p : Placed) (c e : List ℕ) (old : Node) (now new : Sessions) (k : �
         hit_met = λ j m. meet w j m (j == k) refl;
         count = count ∙ ap (counted (one_if hit)) w.count ∙ counted_both w.requests (one_if hit) old.refused;
         all = w.all ∙ sym (middle k done rest);
-        untouched = λ j m. let apart_from = not_last j k done m in others j (other j apart_from) ∙ w.untouched j (sym (in_more j k done apart_from) ∙ m);
+        untouched = λ j m. let apart_from = not_last j k done m in
+            others j (other j apart_from) ∙ w.untouched j (sym (in_more j k done apart_from) ∙ m);
         served = λ j m. serve w was j m (j == k) refl;
-        counted = sym (tally_snoc (λ j. fate_at c (at_offset e p) (attached_at old j) (new j)) done k none ∙ ap (λ g. one_more g (tally (λ j. fate_at c (at_offset e p) (attached_at old j) (new j)) done none)) (sym (fate_is ∙ ap (λ o. fate_at c (at_offset e p) o (new k)) was)) ∙ ap (one_more f) (sym (w.counted ∙ tally_same (λ j. fate_at c (at_offset e p) (attached_at old j) (now j)) (λ j. fate_at c (at_offset e p) (attached_at old j) (new j)) done none (λ j m. ap (fate_at c (at_offset e p) (attached_at old j)) (sym (others j (other j (apart j k done m passed))))))));
+        counted = sym (tally_snoc (λ j. fate_at c (at_offset e p) (attached_at old j) (new j)) done k none
+            ∙ ap (λ g. one_more g (tally (λ j. fate_at c (at_offset e p) (attached_at old j) (new j)) done none))
+            (sym (fate_is ∙ ap (λ o. fate_at c (at_offset e p) o (new k)) was))
+            ∙ ap (one_more f) (sym (w.counted ∙ tally_same (λ j. fate_at c (at_offset e p) (attached_at old j) (now j))
+            (λ j. fate_at c (at_offset e p) (attached_at old j) (new j)) done none
+            (λ j m. ap (fate_at c (at_offset e p) (attached_at old j))
+            (sym (others j (other j (apart j k done m passed))))))));
         so_many = total_more f counts ∙ ap (λ n. n + 1) w.so_many ∙ sym (snoc_length k done);
         turns = turns ∙ ap (gets_turn k) w.turns ∙ sym (turns_snoc k done old.turns);
         quiet = λ h. let q = quiet_before f counts h in stays_quiet (w.quiet q.0) q.1;
       }
     where
-      meet : (w : IsOnItsWay p c e old now refused pending counts done (k ∷ rest)) → (j : ℕ) → is_in j (hit_more hit k w.hit) ≡ true → (t : Bool) → (j == k) ≡ t → has j (done ++ k ∷ []) ≡ true
+      meet : (w : IsOnItsWay p c e old now refused pending counts done (k ∷ rest)) → (j : ℕ)
+          → is_in j (hit_more hit k w.hit) ≡ true → (t : Bool) → (j == k) ≡ t → has j (done ++ k ∷ []) ≡ true
       meet w j m true same = is_last j k done same
       meet w j m false same = in_more j k done same ∙ w.hit_met j (hit_before hit k j w.hit m same)
 
-      serve : (w : IsOnItsWay p c e old now refused pending counts done (k ∷ rest)) → now k ≡ attached_at old k → (j : ℕ) → has j (done ++ k ∷ []) ≡ true → (t : Bool) → (j == k) ≡ t → Both (Brings (is_in j (hit_more hit k w.hit)) c e p) (attached_at old j) (new j)
+      serve : (w : IsOnItsWay p c e old now refused pending counts done (k ∷ rest)) → now k ≡ attached_at old k
+          → (j : ℕ) → has j (done ++ k ∷ []) ≡ true → (t : Bool) → (j == k) ≡ t
+          → Both (Brings (is_in j (hit_more hit k w.hit)) c e p) (attached_at old j) (new j)
       serve w was j m true same =
-          subst (λ i. Both (Brings (is_in i (hit_more hit k w.hit)) c e p) (attached_at old i) (new i)) (sym ((Decides-eqb j k).0 same))
-          (subst (λ o. Both (Brings (is_in k (hit_more hit k w.hit)) c e p) o (new k)) was (wider p c e hit (is_in k (hit_more hit k w.hit)) (hit_here hit k w.hit) (now k) (new k) here))
+          subst (λ i. Both (Brings (is_in i (hit_more hit k w.hit)) c e p) (attached_at old i) (new i))
+          (sym ((Decides-eqb j k).0 same))
+          (subst (λ o. Both (Brings (is_in k (hit_more hit k w.hit)) c e p) o (new k)) was
+          (wider p c e hit (is_in k (hit_more hit k w.hit)) (hit_here hit k w.hit) (now k) (new k) here))
       serve w was j m false same =
-          subst (λ o. Both (Brings (is_in j (hit_more hit k w.hit)) c e p) (attached_at old j) o) (sym (others j (other j same)))
-          (wider p c e (is_in j w.hit) (is_in j (hit_more hit k w.hit)) (hit_still hit k j w.hit) (attached_at old j) (now j) (w.served j (sym (in_more j k done same) ∙ m)))
+          subst (λ o. Both (Brings (is_in j (hit_more hit k w.hit)) c e p) (attached_at old j) o)
+          (sym (others j (other j same)))
+          (wider p c e (is_in j w.hit) (is_in j (hit_more hit k w.hit)) (hit_still hit k j w.hit) (attached_at old j)
+          (now j) (w.served j (sym (in_more j k done same) ∙ m)))
 
-pub goes_on : (p : Placed) (c e : List ℕ) (old : Node) (now : Sessions) (refused : ℕ) (pending : Turns) (counts : Delivered) (done : List ℕ) (k : ℕ) (rest : List ℕ) → AreFollows old.rows → IsOnItsWay p c e old now refused pending counts done (k ∷ rest) → total counts < 65536
+pub goes_on : (p : Placed) (c e : List ℕ) (old : Node) (now : Sessions) (refused : ℕ) (pending : Turns)
+    (counts : Delivered) (done : List ℕ) (k : ℕ) (rest : List ℕ) → AreFollows old.rows
+    → IsOnItsWay p c e old now refused pending counts done (k ∷ rest) → total counts < 65536
 goes_on p c e old now refused pending counts done k rest rows w =
-    let few = few_sessions old.rows c rows.few in let all = ap length w.all in let so_many = w.so_many in omega (arith, few, all, so_many, length-append done (k ∷ rest))
+    let few = few_sessions old.rows c rows.few in let all = ap length w.all in let so_many = w.so_many in
+    omega (arith, few, all, so_many, length-append done (k ∷ rest))
 
 -- ---- the end
 
@@ -198,7 +232,9 @@ all_done : (ks : List ℕ) → ks ++ [] ≡ ks
 all_done [] = refl
 all_done (k ∷ ks) = ap (λ js. k ∷ js) (all_done ks)
 
-module _ (p : Placed) (c e : List ℕ) (old : Node) (now : Sessions) (refused : ℕ) (pending : Turns) (counts : Delivered) (done : List ℕ) (agrees : Agrees (attached_at old) old.rows) (w : IsOnItsWay p c e old now refused pending counts done []) where
+module _ (p : Placed) (c e : List ℕ) (old : Node) (now : Sessions) (refused : ℕ) (pending : Turns) (counts : Delivered)
+    (done : List ℕ) (agrees : Agrees (attached_at old) old.rows)
+    (w : IsOnItsWay p c e old now refused pending counts done []) where
   ends_all : sessions_of old.rows c ≡ done
   ends_all = w.all ∙ all_done done
 
@@ -208,23 +244,29 @@ module _ (p : Placed) (c e : List ℕ) (old : Node) (now : Sessions) (refused : 
   served_each : (k : ℕ) → (t : Bool) → has k done ≡ t → Both (Brings (is_in k w.hit) c e p) (attached_at old k) (now k)
   served_each k true m = w.served k m
   served_each k false m =
-      subst (λ o. Both (Brings (is_in k w.hit) c e p) (attached_at old k) o) (sym (w.untouched k m)) (no_subscriber (is_in k w.hit) p c e (attached_at old k) (un_not (is_off (sub_in (attached_at old k) c)) (sym (agrees c k) ∙ follows_done k ∙ m)))
+      subst (λ o. Both (Brings (is_in k w.hit) c e p) (attached_at old k) o) (sym (w.untouched k m))
+      (no_subscriber (is_in k w.hit) p c e (attached_at old k)
+      (un_not (is_off (sub_in (attached_at old k) c)) (sym (agrees c k) ∙ follows_done k ∙ m)))
 
   pub ends_served : (new : Node) → attached_at new ≡ now → new.refused ≡ refused → Delivers c e p old new
   ends_served new is count =
       record {
         hit = w.hit;
-        hit_follow = λ k m. is_not (is_off (sub_in (attached_at old k) c)) (sym (agrees c k) ∙ follows_done k ∙ w.hit_met k m);
-        each = λ k. subst (λ (g : Sessions). Both (Brings (is_in k w.hit) c e p) (attached_at old k) (g k)) (sym is) (served_each k (has k done) refl);
+        hit_follow =
+            λ k m. is_not (is_off (sub_in (attached_at old k) c)) (sym (agrees c k) ∙ follows_done k ∙ w.hit_met k m);
+        each = λ k. subst (λ (g : Sessions). Both (Brings (is_in k w.hit) c e p) (attached_at old k) (g k)) (sym is)
+            (served_each k (has k done) refl);
         requests = w.requests;
         few_hit = w.few_hit;
         count = count ∙ w.count;
       }
 
-  pub ends_counted : (new : Sessions) → new ≡ now → counts ≡ tally (λ k. fate_at c (at_offset e p) (attached_at old k) (new k)) (sessions_of old.rows c) none
+  pub ends_counted : (new : Sessions) → new ≡ now
+      → counts ≡ tally (λ k. fate_at c (at_offset e p) (attached_at old k) (new k)) (sessions_of old.rows c) none
   ends_counted new is =
       w.counted ∙ ap (λ ks. tally (λ k. fate_at c (at_offset e p) (attached_at old k) (now k)) ks none) (sym ends_all)
-      ∙ ap (λ (g : Sessions). tally (λ k. fate_at c (at_offset e p) (attached_at old k) (g k)) (sessions_of old.rows c) none) (sym is)
+      ∙ ap (λ (g : Sessions). tally (λ k. fate_at c (at_offset e p) (attached_at old k) (g k)) (sessions_of old.rows c)
+      none) (sym is)
 
   pub ends_so_many : total counts ≡ length (sessions_of old.rows c)
   ends_so_many = w.so_many ∙ ap length (sym ends_all)
@@ -238,9 +280,12 @@ module _ (p : Placed) (c e : List ℕ) (old : Node) (now : Sessions) (refused : 
       record {
         met = λ k on. (
           fate_at c (at_offset e p) (attached_at old k) (now k),
-          λ d. off_at c d e (is_in k w.hit) p (attached_at old k) (now k) (served_each k (has k done) refl) ∙ ap (off_after (fate_at c (at_offset e p) (attached_at old k) (now k)) c d) (twice (is_off (sub_in (attached_at old k) d)) ∙ ap not (sym (agrees d k))),
+          λ d. off_at c d e (is_in k w.hit) p (attached_at old k) (now k) (served_each k (has k done) refl)
+              ∙ ap (off_after (fate_at c (at_offset e p) (attached_at old k) (now k)) c d)
+              (twice (is_off (sub_in (attached_at old k) d)) ∙ ap not (sym (agrees d k))),
         );
-        others = λ k off d. agrees d k ∙ ap (λ o. not (is_off (sub_in o d))) (sym (w.untouched k (sym (follows_done k) ∙ off)));
+        others = λ k off d. agrees d k ∙ ap (λ o. not (is_off (sub_in o d)))
+            (sym (w.untouched k (sym (follows_done k) ∙ off)));
       }
 
   -- each number has a session where it had one
@@ -265,12 +310,14 @@ module _ (p : Placed) (c e : List ℕ) (old : Node) (now : Sessions) (refused : 
       still_none (Some a) h = absurd (cc)
 
 -- a refused request before the first session
-pub noted : (p : Placed) (c e : List ℕ) (n : ℕ) (old mid new : Node) → mid ≡ record old { refused = counted n old.refused } → Delivers c e p mid new → Delivers c e p old new
+pub noted : (p : Placed) (c e : List ℕ) (n : ℕ) (old mid new : Node)
+    → mid ≡ record old { refused = counted n old.refused } → Delivers c e p mid new → Delivers c e p old new
 noted p c e n old mid new is d =
     record {
       hit = d.hit;
       hit_follow = λ k m. subst (λ (h : Node). is_off (sub_in (attached_at h k) c) ≡ false) is (d.hit_follow k m);
-      each = λ k. subst (λ (h : Node). Both (Brings (is_in k d.hit) c e p) (attached_at h k) (attached_at new k)) is (d.each k);
+      each = λ k. subst (λ (h : Node). Both (Brings (is_in k d.hit) c e p) (attached_at h k) (attached_at new k)) is
+          (d.each k);
       requests = n + d.requests;
       few_hit = omega (arith, d.few_hit);
       count = d.count ∙ ap (λ (h : Node). counted d.requests h.refused) is ∙ counted_both n d.requests old.refused;

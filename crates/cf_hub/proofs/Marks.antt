@@ -1,5 +1,6 @@
 -- Turns are kept: what one more and one less make of numbers and marks.
-use Rattle.std.proofs.Common.{◌≡◌, ◌≤◌, ◌<◌, ◌+◌, ◌==◌, ◌||◌, ℕ, zero, suc, Bool, true, false, List, [], ◌∷◌, ◌++◌, length, arith, refl, sym, ap, ◌∙◌, subst, slice_set, nat_lt}
+use Rattle.std.proofs.Common.{◌≡◌, ◌≤◌, ◌<◌, ◌+◌, ◌==◌, ◌||◌, ℕ, zero, suc, Bool, true, false, List, [], ◌∷◌, ◌++◌}
+use Rattle.std.proofs.Common.{length, arith, refl, sym, ap, ◌∙◌, subst, slice_set, nat_lt}
 use Rattle.std.proofs.lemmas.Bool.Decides.{Decides-eqb, nat_tests}
 use Rattle.std.proofs.lemmas.List.{length-append, length-set, get_or-set_same, get_or-set_other}
 use Rattle.std.proofs.lemmas.List.Folds.{list_any-append}
@@ -21,14 +22,16 @@ marks_fewer (false ∷ ms) zero l e = omega (arith, marks_few ms)
 marks_fewer (true ∷ ms) (suc k) l e = omega (arith, marks_fewer ms k (omega (arith, l)) e)
 marks_fewer (false ∷ ms) (suc k) l e = omega (arith, marks_fewer ms k (omega (arith, l)) e)
 
-one_marked : (ms : List Bool) (k : ℕ) → k < length ms → is_marked ms k ≡ false → marks_count (slice_set ms k true) ≡ marks_count ms + 1
+one_marked : (ms : List Bool) (k : ℕ) → k < length ms → is_marked ms k ≡ false
+    → marks_count (slice_set ms k true) ≡ marks_count ms + 1
 one_marked [] k l e = absurd (omega (arith, l))
 one_marked (true ∷ ms) zero l e = absurd (cc)
 one_marked (false ∷ ms) zero l e = omega arith
 one_marked (true ∷ ms) (suc k) l e = omega (arith, one_marked ms k (omega (arith, l)) e)
 one_marked (false ∷ ms) (suc k) l e = omega (arith, one_marked ms k (omega (arith, l)) e)
 
-one_unmarked : (ms : List Bool) (k : ℕ) → is_marked ms k ≡ true → marks_count (slice_set ms k false) + 1 ≡ marks_count ms
+one_unmarked : (ms : List Bool) (k : ℕ) → is_marked ms k ≡ true
+    → marks_count (slice_set ms k false) + 1 ≡ marks_count ms
 one_unmarked [] k e = absurd (cc)
 one_unmarked (true ∷ ms) zero e = omega arith
 one_unmarked (false ∷ ms) zero e = absurd (cc)
@@ -66,7 +69,8 @@ once_more k (x ∷ xs) h o =
 
 -- ---- one more, one less, and more room
 
-pub added : (ns : List ℕ) (ms : List Bool) (room k : ℕ) → AreMarked ns ms room → k < length ms → is_marked ms k ≡ false → AreMarked (ns ++ k ∷ []) (slice_set ms k true) room
+pub added : (ns : List ℕ) (ms : List Bool) (room k : ℕ) → AreMarked ns ms room → k < length ms → is_marked ms k ≡ false
+    → AreMarked (ns ++ k ∷ []) (slice_set ms k true) room
 added ns ms room k a l e =
     record {
       marked = λ j. by_value j (j == k) (Decides-eqb j k).0 (λ h. (Decides-eqb j k).1 h);
@@ -84,13 +88,16 @@ added ns ms room k a l e =
     or_false false = refl
 
     here : is_in k (ns ++ k ∷ []) ≡ is_marked (slice_set ms k true) k
-    here = is_last k k ns ∙ ap (λ t. is_in k ns || t) ((Decides-eqb k k).1 refl) ∙ or_true (is_in k ns) ∙ sym (get_or-set_same ms k true false l)
+    here = is_last k k ns ∙ ap (λ t. is_in k ns || t) ((Decides-eqb k k).1 refl) ∙ or_true (is_in k ns)
+        ∙ sym (get_or-set_same ms k true false l)
 
-    by_value : (j : ℕ) (t : Bool) → (t ≡ true → j ≡ k) → (j ≡ k → t ≡ true) → is_in j (ns ++ k ∷ []) ≡ is_marked (slice_set ms k true) j
+    by_value : (j : ℕ) (t : Bool) → (t ≡ true → j ≡ k) → (j ≡ k → t ≡ true)
+        → is_in j (ns ++ k ∷ []) ≡ is_marked (slice_set ms k true) j
     by_value j true f g = subst (λ i. is_in i (ns ++ k ∷ []) ≡ is_marked (slice_set ms k true) i) (sym (f refl)) here
     by_value j false f g =
         let apart : (k == j) ≡ false = other (k == j) (λ h. sym ((Decides-eqb k j).0 h)) in
-        is_last j k ns ∙ ap (λ t. is_in j ns || t) apart ∙ or_false (is_in j ns) ∙ a.marked j ∙ sym (get_or-set_other ms k j true false (λ h. absurd (let c = g h in cc)))
+        is_last j k ns ∙ ap (λ t. is_in j ns || t) apart ∙ or_false (is_in j ns) ∙ a.marked j
+        ∙ sym (get_or-set_other ms k j true false (λ h. absurd (let c = g h in cc)))
       where
         other : (u : Bool) → (u ≡ true → j ≡ k) → u ≡ false
         other true h = absurd (let c = g (h refl) in cc)
@@ -105,7 +112,8 @@ within k ns ms room a = sym (a.marked k) ∙ first
 pub in_marks : (k : ℕ) (ns : List ℕ) (ms : List Bool) (room : ℕ) → AreMarked (k ∷ ns) ms room → k < length ms
 in_marks k ns ms room a = in_range ms k (within k ns ms room a)
 
-pub taken : (k : ℕ) (ns : List ℕ) (ms : List Bool) (room : ℕ) → AreMarked (k ∷ ns) ms room → AreMarked ns (slice_set ms k false) room
+pub taken : (k : ℕ) (ns : List ℕ) (ms : List Bool) (room : ℕ) → AreMarked (k ∷ ns) ms room
+    → AreMarked ns (slice_set ms k false) room
 taken k ns ms room a =
     record {
       marked = λ j. by_value j (j == k) (Decides-eqb j k).0 (λ h. (Decides-eqb j k).1 h);
@@ -114,18 +122,28 @@ taken k ns ms room a =
       room = omega (arith, length-set ms k false, a.room);
     }
   where
-    by_value : (j : ℕ) (t : Bool) → (t ≡ true → j ≡ k) → (j ≡ k → t ≡ true) → is_in j ns ≡ is_marked (slice_set ms k false) j
+    by_value : (j : ℕ) (t : Bool) → (t ≡ true → j ≡ k) → (j ≡ k → t ≡ true)
+        → is_in j ns ≡ is_marked (slice_set ms k false) j
     by_value j true f g =
-        subst (λ i. is_in i ns ≡ is_marked (slice_set ms k false) i) (sym (f refl)) (a.once.0 ∙ sym (get_or-set_same ms k false false (in_marks k ns ms room a)))
+        subst (λ i. is_in i ns ≡ is_marked (slice_set ms k false) i) (sym (f refl))
+        (a.once.0 ∙ sym (get_or-set_same ms k false false (in_marks k ns ms room a)))
     by_value j false f g =
-        sym (passed (k == j) (λ h. sym ((Decides-eqb k j).0 h)) refl) ∙ a.marked j ∙ sym (get_or-set_other ms k j false false (λ h. absurd (let c = g h in cc)))
+        sym (passed (k == j) (λ h. sym ((Decides-eqb k j).0 h)) refl) ∙ a.marked j
+        ∙ sym (get_or-set_other ms k j false false (λ h. absurd (let c = g h in cc)))
       where
         passed : (u : Bool) → (u ≡ true → j ≡ k) → (k == j) ≡ u → is_in j (k ∷ ns) ≡ is_in j ns
         passed true h is = absurd (let c = g (h refl) in cc)
         passed false h is = grind (arith, is)
 
-pub widened : (ns : List ℕ) (ms new : List Bool) (room more : ℕ) → AreMarked ns ms room → ((k : ℕ) → is_marked new k ≡ is_marked ms k) → length new ≤ more → AreMarked ns new more
-widened ns ms new room more a h l = record { marked = λ k. a.marked k ∙ sym (h k); once = a.once; count = a.count ∙ sym (same_count ms new h); room = l }
+pub widened : (ns : List ℕ) (ms new : List Bool) (room more : ℕ) → AreMarked ns ms room
+    → ((k : ℕ) → is_marked new k ≡ is_marked ms k) → length new ≤ more → AreMarked ns new more
+widened ns ms new room more a h l =
+    record {
+      marked = λ k. a.marked k ∙ sym (h k);
+      once = a.once;
+      count = a.count ∙ sym (same_count ms new h);
+      room = l;
+    }
 
 past : (ms : List Bool) (k : ℕ) → length ms ≤ k → is_marked ms k ≡ false
 past [] k l = refl
@@ -133,7 +151,9 @@ past (m ∷ ms) zero l = absurd (omega (arith, l))
 past (m ∷ ms) (suc k) l = past ms k (omega (arith, l))
 
 -- more marks, none of them set
-pub grown : (ms new : List Bool) (n : ℕ) → length ms < n → length new ≡ n → ((k : ℕ) → k < length ms → is_marked new k ≡ is_marked ms k) → ((k : ℕ) → length ms ≤ k → k < n → is_marked new k ≡ false)
+pub grown : (ms new : List Bool) (n : ℕ) → length ms < n → length new ≡ n
+    → ((k : ℕ) → k < length ms → is_marked new k ≡ is_marked ms k)
+    → ((k : ℕ) → length ms ≤ k → k < n → is_marked new k ≡ false)
     → (k : ℕ) → is_marked new k ≡ is_marked ms k
 grown ms new n l e same fresh k = by_value (nat_lt k (length ms)) refl (nat_lt k n) refl
   where

@@ -23,11 +23,13 @@ something [] e f = absurd (cc)
 something (n ∷ ns) e f = absurd (cc)
 
 -- who is named has something that waits
-pub named_waits : (sessions : ℕ → Option Attached) (ks : List ℕ) → IfSome (first_turn (waits sessions) ks) (λ k. waits_in (sessions k) ≢ [])
+pub named_waits : (sessions : ℕ → Option Attached) (ks : List ℕ)
+    → IfSome (first_turn (waits sessions) ks) (λ k. waits_in (sessions k) ≢ [])
 named_waits sessions [] = tt
 named_waits sessions (k ∷ ks) = by_value (waits sessions k) refl (named_waits sessions ks)
   where
-    by_value : (t : Bool) → waits sessions k ≡ t → IfSome (first_turn (waits sessions) ks) (λ j. waits_in (sessions j) ≢ [])
+    by_value : (t : Bool) → waits sessions k ≡ t → IfSome (first_turn (waits sessions) ks)
+        (λ j. waits_in (sessions j) ≢ [])
         → IfSome (if t then Some k else first_turn (waits sessions) ks) (λ j. waits_in (sessions j) ≢ [])
     by_value true e rest = something (waits_in (sessions k)) e
     by_value false e rest = rest

@@ -1,5 +1,7 @@
 -- Where a node's sessions stand after a place is written, or more are made.
-use Rattle.std.proofs.Common.{◌≡◌, ◌≢◌, ◌<◌, ◌≤◌, ℕ, zero, suc, Bool, true, false, if◌then◌else◌, List, [], ◌∷◌, Option, Some, None, map, option_map, is_some, sym, subst, length, arith, refl, ap, ◌∙◌, slice_set, Box, Global}
+use Rattle.std.proofs.Common.{◌≡◌, ◌≢◌, ◌<◌, ◌≤◌, ℕ, zero, suc, Bool, true, false, if◌then◌else◌, List, [], ◌∷◌, Option}
+use Rattle.std.proofs.Common.{Some, None, map, option_map, is_some, sym, subst, length, arith, refl, ap, ◌∙◌, slice_set}
+use Rattle.std.proofs.Common.{Box, Global}
 use Rattle.std.specs.Str.{bytes_eq}
 use Rattle.std.proofs.lemmas.List.{get_or-set_other, get_or-set_same, length-map, map-set}
 use Rattle.cf_protocol.specs.Position.{Position}
@@ -18,10 +20,14 @@ use Rattle.cf_model.specs.Sessions.{is_off}
 abbrev Boxed : Type 0
 Boxed = Option (Box AttachedSession Global)
 
-pub written : (os : List Boxed) (k : ℕ) (o : Boxed) → k < length os → session_in (unboxed_all (slice_set os k o)) k ≡ unboxed o
-written os k o h = rw (map-set unboxed os k o) (get_or-set_same (map unboxed os) k (unboxed o) None (omega (arith, length-map os unboxed, h)))
+pub written : (os : List Boxed) (k : ℕ) (o : Boxed) → k < length os
+    → session_in (unboxed_all (slice_set os k o)) k ≡ unboxed o
+written os k o h =
+    rw (map-set unboxed os k o) (get_or-set_same (map unboxed os) k (unboxed o) None
+    (omega (arith, length-map os unboxed, h)))
 
-pub others_stay : (os : List Boxed) (k : ℕ) (o : Boxed) (j : ℕ) → j ≢ k → session_in (unboxed_all (slice_set os k o)) j ≡ session_in (unboxed_all os) j
+pub others_stay : (os : List Boxed) (k : ℕ) (o : Boxed) (j : ℕ) → j ≢ k
+    → session_in (unboxed_all (slice_set os k o)) j ≡ session_in (unboxed_all os) j
 others_stay os k o j h = rw (map-set unboxed os k o) (get_or-set_other (map unboxed os) k j (unboxed o) None h)
 
 pub less_than : (k n : ℕ) → k ≤ n → (k ≡ n → ⊥) → k < n
@@ -42,7 +48,8 @@ within (p ∷ ps) zero s e = omega arith
 within (p ∷ ps) (suc k) s e = let less = within ps k s e in omega (arith, less)
 
 -- a session that is there moves
-pub moved_here : (ps : Places) (k : ℕ) (old new : AttachedSession) (move : Move) → session_in ps k ≡ Some old → state_of new ≡ move (state_of old) → badge_of new ≡ badge_of old
+pub moved_here : (ps : Places) (k : ℕ) (old new : AttachedSession) (move : Move) → session_in ps k ≡ Some old
+    → state_of new ≡ move (state_of old) → badge_of new ≡ badge_of old
     → attached_in (slice_set ps k (Some new)) k ≡ option_map (moves move) (attached_in ps k)
 moved_here ps k old new move there state badge =
     ap (option_map attached_of) (get_or-set_same ps k (Some new) None (within ps k old there))
@@ -55,7 +62,8 @@ module _ (ps : Places) (k : ℕ) (old new : AttachedSession) (there : session_in
   pub stands : session_in (slice_set ps k (Some new)) k ≡ Some new
   stands = get_or-set_same ps k (Some new) None (within ps k old there)
 
-  pub met_here : (R : Attached → Attached → Type 0) → R (attached_of old) (attached_of new) → MeetsIn k R ps (slice_set ps k (Some new))
+  pub met_here : (R : Attached → Attached → Type 0) → R (attached_of old) (attached_of new)
+      → MeetsIn k R ps (slice_set ps k (Some new))
   met_here R h =
       subst (λ (o : Option AttachedSession). Both R (attached_in ps k) (option_map attached_of o)) (sym stands)
       (subst (λ (o : Option AttachedSession). Both R (option_map attached_of o) (Some (attached_of new))) (sym there) h)
@@ -66,7 +74,8 @@ module _ (ps : Places) (k : ℕ) (old new : AttachedSession) (there : session_in
       ∙ h d
       ∙ sym (ap (λ (o : Option AttachedSession). off_after f c d (is_off (sub_in (option_map attached_of o) d))) there)
 
-  pub fate_here : (c : List ℕ) (q : Position) → fate_of c q (state_of old) (state_of new) ≡ fate_at c q (attached_in ps k) (attached_in (slice_set ps k (Some new)) k)
+  pub fate_here : (c : List ℕ) (q : Position) → fate_of c q (state_of old) (state_of new)
+      ≡ fate_at c q (attached_in ps k) (attached_in (slice_set ps k (Some new)) k)
   fate_here c q =
       sym
       (ap (λ (o : Option AttachedSession). fate_at c q (attached_in ps k) (option_map attached_of o)) stands
@@ -90,12 +99,16 @@ off_stays fate.Closed c d = refl
 
 module _ (ps : Places) (k : ℕ) (none : session_in ps k ≡ None) where
   pub met_none : (R : Attached → Attached → Type 0) → MeetsIn k R ps ps
-  met_none R = subst (λ (o : Option AttachedSession). Both R (option_map attached_of o) (option_map attached_of o)) (sym none) tt
+  met_none R =
+      subst (λ (o : Option AttachedSession). Both R (option_map attached_of o) (option_map attached_of o)) (sym none) tt
 
   pub ends_none : (f : Fate) (c : List ℕ) → EndsIn k f c ps ps
   ends_none f c = λ d.
-      subst (λ (o : Option AttachedSession). is_off (sub_in (option_map attached_of o) d) ≡ off_after f c d (is_off (sub_in (option_map attached_of o) d))) (sym none)
+      subst (λ (o : Option AttachedSession). is_off (sub_in (option_map attached_of o) d)
+      ≡ off_after f c d (is_off (sub_in (option_map attached_of o) d))) (sym none)
       (sym (off_stays f c d))
 
   pub fate_none : (c : List ℕ) (q : Position) → fate.Dropped ≡ fate_at c q (attached_in ps k) (attached_in ps k)
-  fate_none c q = subst (λ (o : Option AttachedSession). fate.Dropped ≡ fate_at c q (option_map attached_of o) (option_map attached_of o)) (sym none) refl
+  fate_none c q =
+      subst (λ (o : Option AttachedSession). fate.Dropped
+      ≡ fate_at c q (option_map attached_of o) (option_map attached_of o)) (sym none) refl

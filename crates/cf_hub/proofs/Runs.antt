@@ -1,5 +1,6 @@
 -- The last of publications that follow an offset.
-use Rattle.std.proofs.Common.{◌≡◌, ℕ, suc, zero, ◌+◌, ◌-◌, Option, Some, List, [], ◌∷◌, length, arith, sym, ap, ◌∙◌, subst, slice_get, map}
+use Rattle.std.proofs.Common.{◌≡◌, ℕ, suc, zero, ◌+◌, ◌-◌, Option, Some, List, [], ◌∷◌, length, arith, sym, ap, ◌∙◌}
+use Rattle.std.proofs.Common.{subst, slice_get, map}
 use Rattle.cf_protocol.specs.Datum.{Datum, Placed, numbered}
 
 last_at : (o : ℕ) (ds : List Datum) (i : ℕ) (x : Placed) → slice_get (numbered o ds) i ≡ Some x → x.offset ≡ o + i + 1
@@ -20,8 +21,11 @@ some_last : (xs : List Placed) (x : Placed) → slice_get xs (length xs - 1) ≡
 some_last [] x e = absurd (cc)
 some_last (y ∷ ys) x e = omega arith
 
-pub last_of : (o : ℕ) (run : List Placed) (x : Placed) → run ≡ numbered o (map (λ y. y.datum) run) → slice_get run (length run - 1) ≡ Some x → x.offset ≡ o + length run
+pub last_of : (o : ℕ) (run : List Placed) (x : Placed) → run ≡ numbered o (map (λ y. y.datum) run)
+    → slice_get run (length run - 1) ≡ Some x → x.offset ≡ o + length run
 last_of o run x is e =
-    let at : x.offset ≡ o + (length run - 1) + 1 = last_at o (map (λ y. y.datum) run) (length run - 1) x (subst (λ ys. slice_get ys (length run - 1) ≡ Some x) is e) in
+    let at : x.offset ≡ o + (length run - 1) + 1 =
+    last_at o (map (λ y. y.datum) run) (length run - 1) x
+    (subst (λ ys. slice_get ys (length run - 1) ≡ Some x) is e) in
     let n : length run - 1 + 1 ≡ length run = some_last run x e in
     omega (arith, at, n)

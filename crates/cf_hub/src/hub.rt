@@ -12,7 +12,7 @@ ghost use Rattle.cf_hub.specs.Turns.{gets_turn};
 ghost use Rattle.cf_hub.specs.Wordings.{IsWritten};
 
 use crate::delivered::Delivered;
-use crate::one_session::{deliver_one, close_one, count_more, leave_one, settle_all, take_one};
+use crate::one_session::{close_one, count_more, deliver_one, leave_one, settle_all, take_one};
 use crate::pending::Pending;
 use crate::session_table::Sessions;
 use crate::wording::push_text;

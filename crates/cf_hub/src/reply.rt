@@ -172,7 +172,10 @@ impl AttachedSession {
             None => (false, Step::none()),
             Some(answered) => {
                 self.leave_if(channel, answered.released.insufficient);
-                (true, self.enqueue_finish(alloc, channel, was_closed, answered))
+                (
+                    true,
+                    self.enqueue_finish(alloc, channel, was_closed, answered),
+                )
             }
         }
     }

@@ -4,7 +4,7 @@ ghost use Rattle.std.specs.Prelude.{◌≡◌};
 use crate::checked::Checked;
 use crate::hub::Hub;
 use crate::one_session::{
-    check_one, count_more, finish_one, next_in, pong_one, read_one, enqueue_one, settle, tick_one,
+    check_one, count_more, enqueue_one, finish_one, next_in, pong_one, read_one, settle, tick_one,
 };
 use crate::queued::Queued;
 use cf_protocol::Position;

@@ -17,7 +17,8 @@ use Rattle.cf_hub_moves.proofs.Later.{listed-later}
 
 module _ (A : List ℕ → Type 0) (lists more : Lists) (g : Grown lists more) where
   said-grows : (i : Item) (n : Note) → SaysNote lists i n → SaysNote more i n
-  said-grows (Text t) n s = record { said = s.said; stays = λ later h. s.stays later (grown_then g h); regular = s.regular; text = s.text }
+  said-grows (Text t) n s =
+      record { said = s.said; stays = λ later h. s.stays later (grown_then g h); regular = s.regular; text = s.text }
   said-grows (Close code) n s = s
 
   some-grow : (is : List Item) (ns : List Note) → SaysSome A lists is ns → SaysSome A more is ns
@@ -29,9 +30,11 @@ module _ (A : List ℕ → Type 0) (lists more : Lists) (g : Grown lists more) w
 
   missed-grows : (c : List ℕ) (x : Option Reading) (ps : List Placed) → MissedBy lists c x ps → MissedBy more c x ps
   missed-grows c None ps h = h
-  missed-grows c (Some r) ps h = record { listed = λ later k. h.listed later (grown_then g k); regular = h.regular; position = h.position }
+  missed-grows c (Some r) ps h =
+      record { listed = λ later k. h.listed later (grown_then g k); regular = h.regular; position = h.position }
 
-  held-grows : (c : List ℕ) (id : ℕ) (x : Option Reading) (h : Held) (arrived : List Position) → IsHeld lists c id x h arrived → IsHeld more c id x h arrived
+  held-grows : (c : List ℕ) (id : ℕ) (x : Option Reading) (h : Held) (arrived : List Position)
+      → IsHeld lists c id x h arrived → IsHeld more c id x h arrived
   held-grows c id x h arrived k = record {
     is_code = k.is_code;
     within = k.within;
@@ -41,7 +44,8 @@ module _ (A : List ℕ → Type 0) (lists more : Lists) (g : Grown lists more) w
     missed = missed-grows c x h.missed k.missed;
   }
 
-  sub-grows : (c : List ℕ) (s : Subscription Held) (t : Subscription (List Position)) → AlikeSub (IsHeld lists c) s t → AlikeSub (IsHeld more c) s t
+  sub-grows : (c : List ℕ) (s : Subscription Held) (t : Subscription (List Position)) → AlikeSub (IsHeld lists c) s t
+      → AlikeSub (IsHeld more c) s t
   sub-grows c Off Off e = tt
   sub-grows c (Asked id since k) (Asked id' since' k') e = (e.0, e.1, held-grows c id None k k' e.2)
   sub-grows c (Ready id was x k) (Ready id' was' x' k') e = (e.0, e.1, e.2, held-grows c id (Some x) k k' e.3)
@@ -60,4 +64,9 @@ module _ (A : List ℕ → Type 0) (lists more : Lists) (g : Grown lists more) w
   sub-grows c (On p mark) (Ready id was x k) e = absurd e
 
   pub among-grows : (a : Texts) (b : Notes) → SaysAmong A lists a b → SaysAmong A more a b
-  among-grows a b h = record { subs = λ c. sub-grows c (a.subs c) (b.subs c) (h.subs c); notes = some-grow a.notes b.notes h.notes; closed = h.closed }
+  among-grows a b h =
+      record {
+        subs = λ c. sub-grows c (a.subs c) (b.subs c) (h.subs c);
+        notes = some-grow a.notes b.notes h.notes;
+        closed = h.closed;
+      }

@@ -3,7 +3,8 @@ use Rattle.std.proofs.Common.{◌≡◌, ℕ, List, [], ◌∷◌, Bool, true, f
 use Rattle.std.specs.List.{list_any}
 use Rattle.cf_json.specs.Characters.{pieces, joined, before, characters}
 
-plain_step : (x : ℕ) (c : List ℕ) (b : Bool) → (x == 92) ≡ b → (b || list_any (λ y. y == 92) c) ≡ false → (list_any (λ y. y == 92) c ≡ false → characters c ≡ Some c) → characters (x ∷ c) ≡ Some (x ∷ c)
+plain_step : (x : ℕ) (c : List ℕ) (b : Bool) → (x == 92) ≡ b → (b || list_any (λ y. y == 92) c) ≡ false
+    → (list_any (λ y. y == 92) c ≡ false → characters c ≡ Some c) → characters (x ∷ c) ≡ Some (x ∷ c)
 unfolding pieces joined
 plain_step x c true h e more = absurd cc
 plain_step x c false h e more = rw h (ap (before (x ∷ [])) (more e))

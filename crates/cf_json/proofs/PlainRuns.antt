@@ -1,5 +1,6 @@
 -- Bytes of a string that stand for themselves are read one after another, or many at once.
-use Rattle.std.proofs.Common.{◌≡◌, ℕ, List, [], ◌∷◌, ◌++◌, true, false, Ok, refl, sym, ap, ◌∙◌, append_assoc, leb-true, arith}
+use Rattle.std.proofs.Common.{◌≡◌, ℕ, List, [], ◌∷◌, ◌++◌, true, false, Ok, refl, sym, ap, ◌∙◌, append_assoc, leb-true}
+use Rattle.std.proofs.Common.{arith}
 use Rattle.std.specs.Prelude.{◌==◌, ◌&&◌, not, nat_le}
 use Rattle.std.specs.List.{list_all}
 use Rattle.std.proofs.lemmas.Bool.{and_parts, ne_eqb, not-true, le-ltb}
@@ -21,11 +22,13 @@ plain_once x s h =
 
 pub plain_run : (w s : List ℕ) → list_all is_plain w ≡ true → text_end within.Plain (w ++ s) ≡ text_end within.Plain s
 plain_run [] s h = refl
-plain_run (x ∷ w) s h = let p = and_parts (is_plain x) (list_all is_plain w) h in plain_once x (w ++ s) p.0 ∙ plain_run w s p.1
+plain_run (x ∷ w) s h = let p = and_parts (is_plain x) (list_all is_plain w) h in
+    plain_once x (w ++ s) p.0 ∙ plain_run w s p.1
 
 -- ---- what is compact already
 
-pub byte_kept : (x : ℕ) (r : List ℕ) → is_space x ≡ false → (x == 34) ≡ false → kept Between r ≡ r → kept Between (x ∷ r) ≡ x ∷ r
+pub byte_kept : (x : ℕ) (r : List ℕ) → is_space x ≡ false → (x == 34) ≡ false → kept Between r ≡ r
+    → kept Between (x ∷ r) ≡ x ∷ r
 unfolding kept
 byte_kept x r a b e = rw (a, b) (ap (λ t. x ∷ t) e)
 
@@ -33,7 +36,9 @@ pub string_kept : (s r : List ℕ) → text_end within.Plain s ≡ Ok r → kept
 string_kept s r reads e =
     let c = text_takes s r reads in
     let w = quoted_walks c.0 (34 ∷ s) r (c.1, ap (λ t. 34 ∷ t) c.2) in
-    ap (kept Between) w.1 ∙ kept-append Between w.0 r ∙ ap (λ m. kept Between w.0 ++ kept m r) w.2.ends ∙ ap (λ t. kept Between w.0 ++ t) e ∙ ap (λ t. t ++ r) w.2.keeps ∙ ap (λ t. 34 ∷ t) (append_assoc c.0 (34 ∷ []) r ∙ sym c.2)
+    ap (kept Between) w.1 ∙ kept-append Between w.0 r ∙ ap (λ m. kept Between w.0 ++ kept m r) w.2.ends
+    ∙ ap (λ t. kept Between w.0 ++ t) e ∙ ap (λ t. t ++ r) w.2.keeps
+    ∙ ap (λ t. 34 ∷ t) (append_assoc c.0 (34 ∷ []) r ∙ sym c.2)
 
 pub nothing_kept : kept Between [] ≡ []
 unfolding kept
@@ -43,7 +48,12 @@ visible_no_space : (x : ℕ) → is_visible x ≡ true → is_space x ≡ false
 unfolding is_space
 visible_no_space x h =
     let above = leb-true 33 x h in
-    rw (ne_eqb x 32 (λ e. omega (arith, above, e)), ne_eqb x 9 (λ e. omega (arith, above, e)), ne_eqb x 10 (λ e. omega (arith, above, e)), ne_eqb x 13 (λ e. omega (arith, above, e))) refl
+    rw (
+      ne_eqb x 32 (λ e. omega (arith, above, e)),
+      ne_eqb x 9 (λ e. omega (arith, above, e)),
+      ne_eqb x 10 (λ e. omega (arith, above, e)),
+      ne_eqb x 13 (λ e. omega (arith, above, e)),
+    ) refl
 
 visible_keeps : (m : SqueezeMode) (x : ℕ) → is_visible x ≡ true → keeps m x ≡ true
 visible_keeps Between x h = ap not (visible_no_space x h)

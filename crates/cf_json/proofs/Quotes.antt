@@ -1,13 +1,17 @@
--- A text that is quoted is a string of the grammar, its characters are the text again, and its length is the one that is named.
-use Rattle.std.proofs.Common.{◌≡◌, ℕ, ◌<◌, ◌/◌, ◌%◌, List, [], ◌∷◌, ◌++◌, length, Option, Some, None, Bool, true, false, cond, nat_lt, refl, ap, ◌∙◌, arith, inl, inr, length-append}
+-- A text that is quoted is a string of the grammar, its characters are the text again, and its length is the one that
+-- is named.
+use Rattle.std.proofs.Common.{◌≡◌, ℕ, ◌<◌, ◌/◌, ◌%◌, List, [], ◌∷◌, ◌++◌, length, Option, Some, None, Bool, true, false}
+use Rattle.std.proofs.Common.{cond, nat_lt, refl, ap, ◌∙◌, arith, inl, inr, length-append}
 use Rattle.std.specs.List.{sum_by}
 use Rattle.std.proofs.lemmas.List.Concat.{length-flat_map}
 use Rattle.std.proofs.lemmas.Bool.{cases_lt, lt-ltb, le-ltb, lt-leb, ne_eqb}
 use Rattle.std.proofs.lemmas.Str.{encode_ascii}
 use Rattle.cf_json.specs.Bytes.{is_escape, is_hex, is_digit}
 use Rattle.cf_json.specs.Grammar.{IsText, nothing, plain, escaped as short, unicode}
-use Rattle.cf_json.specs.Characters.{Piece, byte, unit, a_piece, pieces, before, alone, joined, characters, meaning, hex_value, code_unit, is_high, is_low}
-use Rattle.cf_json.specs.Quoting.{short_letter, hex_digit, escape, escape_by, length_by, escaped, quoted, escape_length, quoted_length}
+use Rattle.cf_json.specs.Characters.{Piece, byte, unit, a_piece, pieces, before, alone, joined, characters, meaning}
+use Rattle.cf_json.specs.Characters.{hex_value, code_unit, is_high, is_low}
+use Rattle.cf_json.specs.Quoting.{short_letter, hex_digit, escape, escape_by, length_by, escaped, quoted, escape_length}
+use Rattle.cf_json.specs.Quoting.{quoted_length}
 use Rattle.cf_json.proofs.Escapes.{unless}
 
 -- ---- a string of the grammar
@@ -25,11 +29,14 @@ digit_is_hex n h = grind arith
 byte_is_text : (x : ℕ) → IsText (escape x)
 unfolding escape short_letter is_escape is_hex is_digit
 byte_is_text x =
-    unless P 34 (short refl nothing) x (λ a. unless P 92 (short refl nothing) x (λ b. unless P 8 (short refl nothing) x (λ c. unless P 12 (short refl nothing) x (λ d.
-    unless P 10 (short refl nothing) x (λ e. unless P 13 (short refl nothing) x (λ f. unless P 9 (short refl nothing) x (λ g.
+    unless P 34 (short refl nothing) x (λ a. unless P 92 (short refl nothing) x
+    (λ b. unless P 8 (short refl nothing) x (λ c. unless P 12 (short refl nothing) x (λ d.
+    unless P 10 (short refl nothing) x (λ e. unless P 13 (short refl nothing) x
+    (λ f. unless P 9 (short refl nothing) x (λ g.
     rw (ne_eqb x 34 a, ne_eqb x 92 b, ne_eqb x 8 c, ne_eqb x 12 d, ne_eqb x 10 e, ne_eqb x 13 f, ne_eqb x 9 g)
     (elim (cases_lt x 32) [
-      | inl low ↦ rw (lt-ltb x 32 low) (unicode refl refl (digit_is_hex (x / 16) (omega arith)) (digit_is_hex (x % 16) (omega arith)) nothing)
+      | inl low ↦ rw (lt-ltb x 32 low) (unicode refl refl (digit_is_hex (x / 16) (omega arith))
+          (digit_is_hex (x % 16) (omega arith)) nothing)
       | inr high ↦ rw (le-ltb x 32 high) (plain high a b nothing)
     ]))))))))
   where
@@ -71,13 +78,16 @@ control_joined x h [] = control_alone x h (Some [])
 control_joined x h (byte y ∷ ps) = control_alone x h (joined (byte y ∷ ps))
 control_joined x h (unit u ∷ ps) = rw (no_high x h, no_low x h, encode_ascii x (omega arith)) refl
 
-byte_joined : (r : List ℕ) (x : ℕ) → joined (pieces a_piece (escape x ++ r)) ≡ before (x ∷ []) (joined (pieces a_piece r))
+byte_joined : (r : List ℕ) (x : ℕ) → joined (pieces a_piece (escape x ++ r))
+    ≡ before (x ∷ []) (joined (pieces a_piece r))
 unfolding escape short_letter pieces joined meaning
 byte_joined r x =
-    unless P 34 refl x (λ a. unless P 92 refl x (λ b. unless P 8 refl x (λ c. unless P 12 refl x (λ d. unless P 10 refl x (λ e. unless P 13 refl x (λ f. unless P 9 refl x (λ g.
+    unless P 34 refl x (λ a. unless P 92 refl x (λ b. unless P 8 refl x
+    (λ c. unless P 12 refl x (λ d. unless P 10 refl x (λ e. unless P 13 refl x (λ f. unless P 9 refl x (λ g.
     rw (ne_eqb x 34 a, ne_eqb x 92 b, ne_eqb x 8 c, ne_eqb x 12 d, ne_eqb x 10 e, ne_eqb x 13 f, ne_eqb x 9 g)
     (elim (cases_lt x 32) [
-      | inl low ↦ rw (lt-ltb x 32 low) (ap (λ u. joined (unit u ∷ pieces a_piece r)) (control_unit x low) ∙ control_joined x low (pieces a_piece r))
+      | inl low ↦ rw (lt-ltb x 32 low) (ap (λ u. joined (unit u ∷ pieces a_piece r)) (control_unit x low)
+          ∙ control_joined x low (pieces a_piece r))
       | inr high ↦ rw (le-ltb x 32 high, ne_eqb x 92 b) refl
     ]))))))))
   where
@@ -95,7 +105,8 @@ byte_length : (x : ℕ) → length (escape x) ≡ escape_length x
 unfolding escape escape_length
 byte_length x = by_letter (short_letter x)
   where
-    by_test : (b : Bool) → length (cond b (92 ∷ 117 ∷ 48 ∷ 48 ∷ hex_digit (x / 16) ∷ hex_digit (x % 16) ∷ []) (x ∷ [])) ≡ cond b 6 1
+    by_test : (b : Bool) → length (cond b (92 ∷ 117 ∷ 48 ∷ 48 ∷ hex_digit (x / 16) ∷ hex_digit (x % 16) ∷ []) (x ∷ []))
+        ≡ cond b 6 1
     by_test true = refl
     by_test false = refl
 
@@ -105,5 +116,6 @@ byte_length x = by_letter (short_letter x)
 
 pub length-quoted : (s : List ℕ) → length (quoted s) ≡ quoted_length s
 length-quoted s =
-    let inside : length (escaped s) ≡ sum_by escape_length s = length-flat_map escape s ∙ (λ i. sum_by (λ x. byte_length x i) s) in
+    let inside : length (escaped s) ≡ sum_by escape_length s =
+    length-flat_map escape s ∙ (λ i. sum_by (λ x. byte_length x i) s) in
     omega (arith, length-append (escaped s) (34 ∷ []))

@@ -1,5 +1,6 @@
 -- What `serde_json` reads a string as is its characters.
-use Rattle.std.proofs.Common.{◌≡◌, ◌≢◌, ℕ, ◌<◌, ◌≤◌, Bool, true, false, cond, ◌&&◌, ◌||◌, ◌==◌, List, [], ◌∷◌, ◌++◌, Option, Some, None, option_and_then, refl, sym, ap, ◌∙◌, arith}
+use Rattle.std.proofs.Common.{◌≡◌, ◌≢◌, ℕ, ◌<◌, ◌≤◌, Bool, true, false, cond, ◌&&◌, ◌||◌, ◌==◌, List, [], ◌∷◌, ◌++◌}
+use Rattle.std.proofs.Common.{Option, Some, None, option_and_then, refl, sym, ap, ◌∙◌, arith}
 use Rattle.std.proofs.lemmas.Bool.{ne_eqb, le-ltb, eqb-true, and_parts, and_left, agree_below, agree_below_at}
 use Rattle.std.specs.Char.{encode_utf8, digit_value, is_digit}
 use Rattle.json.specs.Text.{content, plain as start, after_high, code_unit as kit_code_unit, short_escape}
@@ -10,7 +11,8 @@ use Rattle.serde_json.specs.Find.{as_str}
 use Rattle.serde_json.specs.Read.{read, of_json, max_depth}
 use Rattle.cf_json.specs.Bytes.{is_hex, is_digit as is_decimal, is_escape}
 use Rattle.cf_json.specs.Grammar.{IsText, nothing, plain, escaped, unicode}
-use Rattle.cf_json.specs.Characters.{Piece, byte, unit, meaning, hex_value, code_unit, a_piece, pieces, is_high, is_low, paired, before, alone, joined, characters}
+use Rattle.cf_json.specs.Characters.{Piece, byte, unit, meaning, hex_value, code_unit, a_piece, pieces, is_high, is_low}
+use Rattle.cf_json.specs.Characters.{paired, before, alone, joined, characters}
 
 -- ---- single bytes
 
@@ -35,11 +37,13 @@ hex_values = refl
 
 digit : (x : ℕ) → is_hex x ≡ true → (is_digit x 16 ≡ true) × (digit_value x ≡ hex_value x)
 digit x h =
-    let all = and_parts (is_digit x 16 && (digit_value x == hex_value x)) (is_hex x) (sym (agree_below_at is_hex same_value 103 x hex_values (hex_below x h)) ∙ h) in
+    let all = and_parts (is_digit x 16 && (digit_value x == hex_value x)) (is_hex x)
+    (sym (agree_below_at is_hex same_value 103 x hex_values (hex_below x h)) ∙ h) in
     let value = and_parts (is_digit x 16) (digit_value x == hex_value x) all.0 in
     (value.0, eqb-true _ _ value.1)
 
-unit_is : (a b c d : ℕ) → is_hex a ≡ true → is_hex b ≡ true → is_hex c ≡ true → is_hex d ≡ true → kit_code_unit a b c d ≡ Some (code_unit a b c d)
+unit_is : (a b c d : ℕ) → is_hex a ≡ true → is_hex b ≡ true → is_hex c ≡ true → is_hex d ≡ true
+    → kit_code_unit a b c d ≡ Some (code_unit a b c d)
 unfolding kit_code_unit code_unit
 unit_is a b c d ha hb hc hd =
     let p = digit a ha in
@@ -77,7 +81,8 @@ module _ (taken here : Option (List ℕ)) where
   by_itself false false none = refl
 
   -- a code unit follows it, which may be a low surrogate
-  with_next : (two : Option (List ℕ)) (h l low : Bool) → (h ≡ true → taken ≡ cond low two None) → cond h taken (cond l None here) ≡ cond (h && low) two (cond (h || l) None here)
+  with_next : (two : Option (List ℕ)) (h l low : Bool) → (h ≡ true → taken ≡ cond low two None)
+      → cond h taken (cond l None here) ≡ cond (h && low) two (cond (h || l) None here)
   with_next two true l true is = is refl
   with_next two true l false is = is refl
   with_next two false true low is = refl
@@ -86,11 +91,15 @@ module _ (taken here : Option (List ℕ)) where
 -- the pieces p are read of what is spelled c, also behind a code unit
 record Agrees (c : List ℕ) (p : List Piece) : Type 0 where
   reads : content start (c ++ 34 ∷ []) ≡ joined p
-  after_unit : (u : ℕ) → cond (is_high u) (content (after_high u) (c ++ 34 ∷ [])) (cond (is_low u) None (before (encode_utf8 u) (joined p))) ≡ joined (unit u ∷ p)
+  after_unit : (u : ℕ) → cond (is_high u) (content (after_high u) (c ++ 34 ∷ []))
+      (cond (is_low u) None (before (encode_utf8 u) (joined p))) ≡ joined (unit u ∷ p)
 
 lone : (u : ℕ) (c : List ℕ) (p : List Piece) → NotUnit (c ++ 34 ∷ []) → joined (unit u ∷ p) ≡ alone u (joined p)
-    → cond (is_high u) (content (after_high u) (c ++ 34 ∷ [])) (cond (is_low u) None (before (encode_utf8 u) (joined p))) ≡ joined (unit u ∷ p)
-lone u c p n is = by_itself (content (after_high u) (c ++ 34 ∷ [])) (before (encode_utf8 u) (joined p)) (is_high u) (is_low u) (λ _. no_unit u (c ++ 34 ∷ []) n) ∙ sym is
+    → cond (is_high u) (content (after_high u) (c ++ 34 ∷ []))
+    (cond (is_low u) None (before (encode_utf8 u) (joined p))) ≡ joined (unit u ∷ p)
+lone u c p n is =
+    by_itself (content (after_high u) (c ++ 34 ∷ [])) (before (encode_utf8 u) (joined p)) (is_high u) (is_low u)
+    (λ _. no_unit u (c ++ 34 ∷ []) n) ∙ sym is
 
 agrees_nothing : Agrees [] []
 unfolding content joined
@@ -100,30 +109,37 @@ not_92 : (x : ℕ) (xs : List ℕ) → x ≢ 92 → NotUnit ((x ∷ xs) ++ 34 �
 not_92 x [] h = and_left (x == 92) (34 == 117) (ne_eqb x 92 h)
 not_92 x (y ∷ xs) h = and_left (x == 92) (y == 117) (ne_eqb x 92 h)
 
-agrees_plain : (x : ℕ) (xs : List ℕ) (p : List Piece) → 32 ≤ x → x ≢ 34 → x ≢ 92 → Agrees xs p → Agrees (x ∷ xs) (byte x ∷ p)
+agrees_plain : (x : ℕ) (xs : List ℕ) (p : List Piece) → 32 ≤ x → x ≢ 34 → x ≢ 92 → Agrees xs p
+    → Agrees (x ∷ xs) (byte x ∷ p)
 unfolding content joined
 agrees_plain x xs p l q b h = record {
   reads = rw (ne_eqb x 34 q, ne_eqb x 92 b, le-ltb x 32 l) (ap (before (x ∷ [])) h.reads);
   after_unit = λ u. lone u (x ∷ xs) (byte x ∷ p) (not_92 x xs b) refl;
 }
 
-agrees_escaped : (x : ℕ) (xs : List ℕ) (p : List Piece) → is_escape x ≡ true → Agrees xs p → Agrees (92 ∷ x ∷ xs) (byte (meaning x) ∷ p)
+agrees_escaped : (x : ℕ) (xs : List ℕ) (p : List Piece) → is_escape x ≡ true → Agrees xs p
+    → Agrees (92 ∷ x ∷ xs) (byte (meaning x) ∷ p)
 unfolding content joined
 agrees_escaped x xs p e h = record {
   reads = rw (ne_eqb x 117 (is_not_u x e), short x e) (ap (before (meaning x ∷ [])) h.reads);
   after_unit = λ u. lone u (92 ∷ x ∷ xs) (byte (meaning x) ∷ p) (ne_eqb x 117 (is_not_u x e)) refl;
 }
 
-agrees_unicode : (a b c d : ℕ) (xs : List ℕ) (p : List Piece) → is_hex a ≡ true → is_hex b ≡ true → is_hex c ≡ true → is_hex d ≡ true → Agrees xs p
+agrees_unicode : (a b c d : ℕ) (xs : List ℕ) (p : List Piece) → is_hex a ≡ true → is_hex b ≡ true → is_hex c ≡ true
+    → is_hex d ≡ true → Agrees xs p
     → Agrees (92 ∷ 117 ∷ a ∷ b ∷ c ∷ d ∷ xs) (unit (code_unit a b c d) ∷ p)
 unfolding content joined is_high is_low
 agrees_unicode a b c d xs p ha hb hc hd h =
     let v = code_unit a b c d in
     let is = unit_is a b c d ha hb hc hd in
-    let taken : (u : ℕ) → content (after_high u) ((92 ∷ 117 ∷ a ∷ b ∷ c ∷ d ∷ xs) ++ 34 ∷ []) ≡ cond (is_low v) (before (encode_utf8 (paired u v)) (joined p)) None = λ u. rw (is, h.reads) refl in
+    let taken : (u : ℕ) → content (after_high u) ((92 ∷ 117 ∷ a ∷ b ∷ c ∷ d ∷ xs) ++ 34 ∷ [])
+    ≡ cond (is_low v) (before (encode_utf8 (paired u v)) (joined p)) None = λ u. rw (is, h.reads) refl in
     record {
       reads = rw (is, h.reads) (h.after_unit v);
-      after_unit = λ u. with_next (content (after_high u) ((92 ∷ 117 ∷ a ∷ b ∷ c ∷ d ∷ xs) ++ 34 ∷ [])) (before (encode_utf8 u) (joined (unit v ∷ p))) (before (encode_utf8 (paired u v)) (joined p)) (is_high u) (is_low u) (is_low v) (λ _. taken u);
+      after_unit =
+          λ u. with_next (content (after_high u) ((92 ∷ 117 ∷ a ∷ b ∷ c ∷ d ∷ xs) ++ 34 ∷ []))
+          (before (encode_utf8 u) (joined (unit v ∷ p))) (before (encode_utf8 (paired u v)) (joined p)) (is_high u)
+          (is_low u) (is_low v) (λ _. taken u);
     }
 
 agrees : {c : List ℕ} → IsText c → Agrees c (pieces a_piece c)
@@ -131,14 +147,16 @@ unfolding pieces
 agrees nothing = agrees_nothing
 agrees (plain {x} {xs} l q b t) = rw (ne_eqb x 92 b) (agrees_plain x xs (pieces a_piece xs) l q b (agrees t))
 agrees (escaped {x} {xs} h t) = rw (ne_eqb x 117 (is_not_u x h)) (agrees_escaped x xs (pieces a_piece xs) h (agrees t))
-agrees (unicode {a} {b} {c} {d} {xs} ha hb hc hd t) = agrees_unicode a b c d xs (pieces a_piece xs) ha hb hc hd (agrees t)
+agrees (unicode {a} {b} {c} {d} {xs} ha hb hc hd t) =
+    agrees_unicode a b c d xs (pieces a_piece xs) ha hb hc hd (agrees t)
 
 pub content-characters : (c : List ℕ) → IsText c → content start (c ++ 34 ∷ []) ≡ characters c
 content-characters c t = (agrees t).reads
 
 -- ---- the lexer passes over the rest of the string
 
-stays_inside : (o s : Bool) (x : ℕ) (r : List ℕ) → lex_byte in_string (cond o operator (cond s space other)) x r (λ m. lex m r) ≡ lex in_string r
+stays_inside : (o s : Bool) (x : ℕ) (r : List ℕ)
+    → lex_byte in_string (cond o operator (cond s space other)) x r (λ m. lex m r) ≡ lex in_string r
 stays_inside true s x r = refl
 stays_inside false true x r = refl
 stays_inside false false x r = refl
@@ -160,11 +178,14 @@ lexed nothing = refl
 lexed (plain {x} {xs} l q b t) = passes x (xs ++ 34 ∷ []) q b ∙ lexed t
 lexed (escaped {x} {xs} h t) = lexed t
 lexed (unicode {a} {b} {c} {d} {xs} ha hb hc hd t) =
-    hex_passes a (b ∷ c ∷ d ∷ (xs ++ 34 ∷ [])) ha ∙ hex_passes b (c ∷ d ∷ (xs ++ 34 ∷ [])) hb ∙ hex_passes c (d ∷ (xs ++ 34 ∷ [])) hc ∙ hex_passes d (xs ++ 34 ∷ []) hd ∙ lexed t
+    hex_passes a (b ∷ c ∷ d ∷ (xs ++ 34 ∷ [])) ha ∙ hex_passes b (c ∷ d ∷ (xs ++ 34 ∷ [])) hb
+    ∙ hex_passes c (d ∷ (xs ++ 34 ∷ [])) hc ∙ hex_passes d (xs ++ 34 ∷ []) hd ∙ lexed t
 
 -- ---- what is read of the whole token
 
-read_token : (o : Option (List ℕ)) → option_and_then as_str (option_and_then of_json (option_and_then (λ p. json.if_last p.0 p.1) (json.value max_depth (punctuate fresh (token (string_token o) ∷ []))))) ≡ o
+read_token : (o : Option (List ℕ)) → option_and_then as_str
+    (option_and_then of_json (option_and_then (λ p. json.if_last p.0 p.1)
+    (json.value max_depth (punctuate fresh (token (string_token o) ∷ []))))) ≡ o
 unfolding punctuate json.value
 read_token None = refl
 read_token (Some s) = refl
@@ -172,5 +193,7 @@ read_token (Some s) = refl
 pub read-characters : (c : List ℕ) → IsText c → option_and_then as_str (read (34 ∷ (c ++ 34 ∷ []))) ≡ characters c
 unfolding lex
 read-characters c t =
-    ap (λ l. option_and_then as_str (option_and_then of_json (option_and_then (λ p. json.if_last p.0 p.1) (json.value max_depth (punctuate fresh (token (string_token (content start (c ++ 34 ∷ []))) ∷ l)))))) (lexed t)
+    ap (λ l. option_and_then as_str (option_and_then of_json
+    (option_and_then (λ p. json.if_last p.0 p.1) (json.value max_depth
+    (punctuate fresh (token (string_token (content start (c ++ 34 ∷ []))) ∷ l)))))) (lexed t)
     ∙ read_token (content start (c ++ 34 ∷ [])) ∙ content-characters c t

@@ -1,5 +1,6 @@
 -- The befell_from that a trace gives is what befell: the entries of each event are those that it wrote.
-use Rattle.std.proofs.Common.{◌≡◌, ℕ, suc, ◌+◌, ◌≤◌, ◌<◌, ◌==◌, Bool, true, false, List, [], ◌∷◌, ◌++◌, length, refl, sym, ap, subst, arith, append_assoc, if◌then◌else◌}
+use Rattle.std.proofs.Common.{◌≡◌, ℕ, suc, ◌+◌, ◌≤◌, ◌<◌, ◌==◌, Bool, true, false, List, [], ◌∷◌, ◌++◌, length, refl}
+use Rattle.std.proofs.Common.{sym, ap, subst, arith, append_assoc, if◌then◌else◌}
 use Rattle.std.proofs.lemmas.List.{append-nil}
 use Rattle.std.proofs.lemmas.Bool.{eq-eqb, ne_eqb}
 use Rattle.cf_machine.specs.Config.{Config}
@@ -44,7 +45,8 @@ numbered-append n [] ys = refl
 numbered-append n (e ∷ xs) ys = of_test (e.at == n) (numbered-append n xs ys)
   where
     of_test : (t : Bool) → numbered n (xs ++ ys) ≡ numbered n xs ++ numbered n ys
-        → (if t then e ∷ numbered n (xs ++ ys) else numbered n (xs ++ ys)) ≡ (if t then e ∷ numbered n xs else numbered n xs) ++ numbered n ys
+        → (if t then e ∷ numbered n (xs ++ ys) else numbered n (xs ++ ys))
+        ≡ (if t then e ∷ numbered n xs else numbered n xs) ++ numbered n ys
     of_test true h = ap (λ (x : List Entry). e ∷ x) h
     of_test false h = h
 
@@ -75,18 +77,21 @@ from-append n (x ∷ xs) ys h k = (omega (arith, h.0), from-append n xs ys h.1 k
 
 from-trace : (cfg : Config) (hs : List Happening) (n : ℕ) (w : World) → AreFrom n (loose_trace cfg n w hs)
 from-trace cfg [] n w = tt
-from-trace cfg (h ∷ hs) n w = from-append n (loosely_writes cfg n w h) _ (at-writes cfg n w h) (from-trace cfg hs (suc n) (befalls cfg w h))
+from-trace cfg (h ∷ hs) n w =
+    from-append n (loosely_writes cfg n w h) _ (at-writes cfg n w h) (from-trace cfg hs (suc n) (befalls cfg w h))
 
 below-append : (n : ℕ) (xs ys : List Entry) → AreBelow n xs → AreAt n ys → AreBelow (suc n) (xs ++ ys)
 below-append n [] [] h k = tt
 below-append n [] (y ∷ ys) h k = (omega (arith, k.0), below-append n [] ys tt k.1)
 below-append n (x ∷ xs) ys h k = (omega (arith, h.0), below-append n xs ys h.1 k)
 
-befell_from-tale : (cfg : Config) (x c : List ℕ) (hs : List Happening) (n : ℕ) (w : World) (before : List Entry) → AreBelow n before
+befell_from-tale : (cfg : Config) (x c : List ℕ) (hs : List Happening) (n : ℕ) (w : World) (before : List Entry)
+    → AreBelow n before
     → befell_from cfg x c (before ++ loose_trace cfg n w hs) n w hs ≡ tale cfg x c n w hs
 befell_from-tale cfg x c [] n w before b = refl
 befell_from-tale cfg x c (h ∷ hs) n w before b =
-    let here : numbered n (before ++ (loosely_writes cfg n w h ++ loose_trace cfg (suc n) (befalls cfg w h) hs)) ≡ loosely_writes cfg n w h =
+    let here : numbered n (before ++ (loosely_writes cfg n w h ++ loose_trace cfg (suc n) (befalls cfg w h) hs))
+    ≡ loosely_writes cfg n w h =
     rw (
       numbered-append n before (loosely_writes cfg n w h ++ loose_trace cfg (suc n) (befalls cfg w h) hs),
       none-below n before b,
@@ -95,24 +100,34 @@ befell_from-tale cfg x c (h ∷ hs) n w before b =
       none-from n (loose_trace cfg (suc n) (befalls cfg w h) hs) (from-trace cfg hs (suc n) (befalls cfg w h)),
     )
     (append-nil (loosely_writes cfg n w h)) in
-    let later : befell_from cfg x c ((before ++ loosely_writes cfg n w h) ++ loose_trace cfg (suc n) (befalls cfg w h) hs) (suc n) (befalls cfg w h) hs ≡ tale cfg x c (suc n) (befalls cfg w h) hs =
-    befell_from-tale cfg x c hs (suc n) (befalls cfg w h) (before ++ loosely_writes cfg n w h) (below-append n before (loosely_writes cfg n w h) b (at-writes cfg n w h)) in
-    rw here (ap (λ (rest : List (List Mark)). (allowed_marks cfg x c w h ++ entry_marks x c (loosely_writes cfg n w h)) ∷ rest)
-    (subst (λ (t : List Entry). befell_from cfg x c t (suc n) (befalls cfg w h) hs ≡ tale cfg x c (suc n) (befalls cfg w h) hs)
+    let later : befell_from cfg x c ((before ++ loosely_writes cfg n w h)
+    ++ loose_trace cfg (suc n) (befalls cfg w h) hs) (suc n) (befalls cfg w h) hs
+    ≡ tale cfg x c (suc n) (befalls cfg w h) hs =
+    befell_from-tale cfg x c hs (suc n) (befalls cfg w h) (before ++ loosely_writes cfg n w h)
+    (below-append n before (loosely_writes cfg n w h) b (at-writes cfg n w h)) in
+    rw here (ap (λ (rest : List (List Mark)). (allowed_marks cfg x c w h ++ entry_marks x c (loosely_writes cfg n w h))
+    ∷ rest)
+    (subst (λ (t : List Entry). befell_from cfg x c t (suc n) (befalls cfg w h) hs
+    ≡ tale cfg x c (suc n) (befalls cfg w h) hs)
     (append_assoc before (loosely_writes cfg n w h) (loose_trace cfg (suc n) (befalls cfg w h) hs)) later))
 
-safe-befell_from : (cfg : Config) (hs : List Happening) (x c : List ℕ) → IsSafe nothing_seen (befell cfg hs (loose_trace cfg 1 start hs) x c)
-safe-befell_from cfg hs x c = subst (λ (m : List (List Mark)). IsSafe nothing_seen m) (sym (befell_from-tale cfg x c hs 1 start [] tt)) (safe_tale cfg hs x c)
+safe-befell_from : (cfg : Config) (hs : List Happening) (x c : List ℕ)
+    → IsSafe nothing_seen (befell cfg hs (loose_trace cfg 1 start hs) x c)
+safe-befell_from cfg hs x c =
+    subst (λ (m : List (List Mark)). IsSafe nothing_seen m) (sym (befell_from-tale cfg x c hs 1 start [] tt))
+    (safe_tale cfg hs x c)
 
 -- numbers never fall
-numbered-at : (low n high : ℕ) (xs ys : List Entry) → low ≤ n → n ≤ high → AreAt n xs → AreNumbered n high ys → AreNumbered low high (xs ++ ys)
+numbered-at : (low n high : ℕ) (xs ys : List Entry) → low ≤ n → n ≤ high → AreAt n xs → AreNumbered n high ys
+    → AreNumbered low high (xs ++ ys)
 numbered-at low n high [] [] l h a y = tt
 numbered-at low n high [] (e ∷ es) l h a y = (let i : n ≤ e.at = y.0 in omega arith, y.1, y.2)
 numbered-at low n high (x ∷ xs) ys l h a y =
     let i : x.at ≡ n = a.0 in
     (omega arith, omega arith, numbered-at x.at n high xs ys (omega arith) h a.1 y)
 
-numbered-from : (cfg : Config) (hs : List Happening) (n : ℕ) (w : World) (high : ℕ) → n + length hs ≡ suc high → AreNumbered n high (loose_trace cfg n w hs)
+numbered-from : (cfg : Config) (hs : List Happening) (n : ℕ) (w : World) (high : ℕ) → n + length hs ≡ suc high
+    → AreNumbered n high (loose_trace cfg n w hs)
 numbered-from cfg [] n w high e = tt
 numbered-from cfg (h ∷ hs) n w high e =
     let next : suc n + length hs ≡ suc high = omega arith in

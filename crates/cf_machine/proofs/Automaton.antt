@@ -5,7 +5,8 @@ use Rattle.cf_model.specs.Streams.{StreamState}
 use Rattle.cf_machine.specs.Marks.{Mark, Asks, Reads, Subscribed, Published, Stops}
 use Rattle.cf_machine.specs.StreamSafety.{sets_out, Follows, all_places, IsHonest}
 
--- What the marks so far say: the last position, the old position, whether an ask is out, the stream as it was read for it, and the
+-- What the marks so far say: the last position, the old position, whether an ask is out, the stream as it was read for
+-- it, and the
 -- place after which the next Published has to come.
 pub record Seen : Type 0 where
   pub last : Option Position
@@ -19,8 +20,10 @@ nothing_seen = record { last = None; old = None; asks = false; read = None; run 
 
 abbrev pub sees : Seen → Mark → Seen
 sees s (Asks from) = record { last = s.last; old = if from then s.last else None; asks = true; read = None; run = None }
-sees s (Reads found) = record { last = s.last; old = s.old; asks = s.asks; read = if s.asks then Some found else None; run = s.run }
-sees s (Subscribed recovered at) = record { last = Some at; old = s.old; asks = false; read = None; run = Some (sets_out recovered s.old at) }
+sees s (Reads found) =
+    record { last = s.last; old = s.old; asks = s.asks; read = if s.asks then Some found else None; run = s.run }
+sees s (Subscribed recovered at) =
+    record { last = Some at; old = s.old; asks = false; read = None; run = Some (sets_out recovered s.old at) }
 sees s (Published at) = record { last = Some at; old = s.old; asks = s.asks; read = s.read; run = Some at }
 sees s Stops = record { last = s.last; old = s.old; asks = false; read = None; run = None }
 

@@ -1,5 +1,6 @@
 -- Tests on names and ids, and tables with one value changed.
-use Rattle.std.proofs.Common.{◌≡◌, ℕ, ◌<◌, ◌==◌, ◌&&◌, Bool, true, false, if◌then◌else◌, List, refl, sym, subst, arith, ◌≢◌, ◌⊎◌, inl, inr}
+use Rattle.std.proofs.Common.{◌≡◌, ℕ, ◌<◌, ◌==◌, ◌&&◌, Bool, true, false, if◌then◌else◌, List, refl, sym, subst, arith}
+use Rattle.std.proofs.Common.{◌≢◌, ◌⊎◌, inl, inr}
 use Rattle.std.specs.Str.{bytes_eq}
 use Rattle.std.proofs.lemmas.Slice.Eq.{bytes_eq-Decides}
 use Rattle.std.proofs.lemmas.Bool.Decides.{nat_tests}
@@ -26,15 +27,18 @@ itself c = grind (arith, text_tells)
 pub not_this : (d c : List ℕ) → d ≢ c → bytes_eq d c ≡ false
 not_this d c h = grind (arith, text_tells)
 
-pub by_two : (d c : List ℕ) (i id : ℕ) → (((bytes_eq d c && (i == id)) ≡ true) × (d ≡ c) × (i ≡ id)) ⊎ ((bytes_eq d c && (i == id)) ≡ false)
+pub by_two : (d c : List ℕ) (i id : ℕ) → (((bytes_eq d c && (i == id)) ≡ true) × (d ≡ c) × (i ≡ id))
+    ⊎ ((bytes_eq d c && (i == id)) ≡ false)
 by_two d c i id = grind (arith, nat_tests, text_tells)
 
 -- both branches of a test
-pub by_test : {A : Type 0} (P : A → Type 0) (b : Bool) (x y : A) → (b ≡ true → P x) → (b ≡ false → P y) → P (if b then x else y)
+pub by_test : {A : Type 0} (P : A → Type 0) (b : Bool) (x y : A) → (b ≡ true → P x) → (b ≡ false → P y)
+    → P (if b then x else y)
 by_test P true x y h k = h refl
 by_test P false x y h k = k refl
 
-pub both_test : {A B : Type 0} (P : A → B → Type 0) (b : Bool) (x x' : A) (y y' : B) → (b ≡ true → P x y) → (b ≡ false → P x' y') → P (if b then x else x') (if b then y else y')
+pub both_test : {A B : Type 0} (P : A → B → Type 0) (b : Bool) (x x' : A) (y y' : B) → (b ≡ true → P x y)
+    → (b ≡ false → P x' y') → P (if b then x else x') (if b then y else y')
 both_test P true x x' y y' h k = h refl
 both_test P false x x' y y' h k = k refl
 
@@ -55,7 +59,8 @@ with-all P f k v here there j =
     ]
 
 -- the same for two tables changed at one name
-pub with-both : {A B : Type 0} (P : List ℕ → A → B → Type 0) (f : List ℕ → A) (g : List ℕ → B) (k : List ℕ) (v : A) (w : B)
+pub with-both : {A B : Type 0} (P : List ℕ → A → B → Type 0) (f : List ℕ → A) (g : List ℕ → B) (k : List ℕ) (v : A)
+    (w : B)
     → P k v w → ((j : List ℕ) → j ≢ k → P j (f j) (g j)) → (j : List ℕ) → P j (with f k v j) (with g k w j)
 with-both P f g k v w here there j =
     elim (text_tells j k) [

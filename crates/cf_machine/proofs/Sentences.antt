@@ -1,16 +1,20 @@
 -- The sentences of stream safety follow from its working form.
-use Rattle.std.proofs.Common.{◌≡◌, ℕ, zero, suc, ◌-◌, ◌≤◌, Bool, true, false, Option, Some, None, List, [], ◌∷◌, ◌++◌, length, inl, inr, refl, sym, ap, subst, ◌∙◌, arith, length-append, drop}
+use Rattle.std.proofs.Common.{◌≡◌, ℕ, zero, suc, ◌-◌, ◌≤◌, Bool, true, false, Option, Some, None, List, [], ◌∷◌, ◌++◌}
+use Rattle.std.proofs.Common.{length, inl, inr, refl, sym, ap, subst, ◌∙◌, arith, length-append, drop}
 use Rattle.cf_protocol.specs.Position.{Position}
 use Rattle.cf_protocol.specs.Note.{Lists}
 use Rattle.cf_machine.specs.Trace.{Published as ToldPublished, Entry}
 use Rattle.cf_machine.specs.Marks.{Mark, Asks, Reads, Subscribed, Published, Stops}
 use Rattle.cf_model.specs.Recovery.{next}
-use Rattle.cf_machine.specs.StreamSafety.{IsTrueTo, AreTrueTo, IsOneOf, OneDatum, last_position, old_position, asks_now, last_read, run_of, onto, all_of, Unbroken, RecoveredRun, HonestRecovery, places, all_places}
+use Rattle.cf_machine.specs.StreamSafety.{IsTrueTo, AreTrueTo, IsOneOf, OneDatum, last_position, old_position, asks_now}
+use Rattle.cf_machine.specs.StreamSafety.{last_read, run_of, onto, all_of, Unbroken, RecoveredRun, HonestRecovery}
+use Rattle.cf_machine.specs.StreamSafety.{places, all_places}
 use Rattle.cf_machine.proofs.Automaton.{Seen, nothing_seen, sees, sees_all, AreSound, IsWhole, IsSafe}
 
 -- ---- one datum
 
-one_is_true : (lists : Lists) (e : Entry) (t : List Entry) → AreTrueTo (λ n. lists) t → IsOneOf e t → IsTrueTo lists e.item
+one_is_true : (lists : Lists) (e : Entry) (t : List Entry) → AreTrueTo (λ n. lists) t → IsOneOf e t
+    → IsTrueTo lists e.item
 one_is_true lists e [] all i = absurd i
 one_is_true lists e (x ∷ xs) all (inl same) = subst (λ (y : Entry). IsTrueTo lists y.item) (sym same) all.0
 one_is_true lists e (x ∷ xs) all (inr later) = one_is_true lists e xs all.1 later
@@ -24,7 +28,14 @@ one_datum_of lists t all d e d_in e_in c p a b d_is e_is =
 -- ---- what was seen of a past, the latest first
 
 abbrev seen_of : List Mark → Seen
-seen_of past = record { last = last_position past; old = old_position past; asks = asks_now past; read = last_read past; run = run_of past }
+seen_of past =
+    record {
+      last = last_position past;
+      old = old_position past;
+      asks = asks_now past;
+      read = last_read past;
+      run = run_of past;
+    }
 
 sees-seen_of : (past : List Mark) (m : Mark) → sees (seen_of past) m ≡ seen_of (m ∷ past)
 sees-seen_of past (Asks from) = refl
@@ -54,14 +65,17 @@ all_sound s [] h = tt
 all_sound s (ms ∷ more) h = sound-append s ms (all_of more) h.0 (all_sound (sees_all s ms) more h.2)
 
 -- what stands behind a past is sound after what was seen of it
-sound_behind : (history : List (List Mark)) (past ms : List Mark) → IsSafe nothing_seen history → all_of history ≡ onto past ms → AreSound (seen_of past) ms
-sound_behind history past ms safe is = sound-onto past ms (subst (AreSound nothing_seen) is (all_sound nothing_seen history safe))
+sound_behind : (history : List (List Mark)) (past ms : List Mark) → IsSafe nothing_seen history
+    → all_of history ≡ onto past ms → AreSound (seen_of past) ms
+sound_behind history past ms safe is =
+    sound-onto past ms (subst (AreSound nothing_seen) is (all_sound nothing_seen history safe))
 
 pub unbroken_of : (history : List (List Mark)) → IsSafe nothing_seen history → Unbroken history
 unbroken_of history safe past after at is = (sound_behind history past (Published at ∷ after) safe is).0
 
 pub honest_of : (history : List (List Mark)) → IsSafe nothing_seen history → HonestRecovery history
-honest_of history safe past after recovered at is = (sound_behind history past (Subscribed recovered at ∷ after) safe is).0
+honest_of history safe past after recovered at is =
+    (sound_behind history past (Subscribed recovered at ∷ after) safe is).0
 
 -- ---- the run of a recovered Subscribed
 
@@ -74,7 +88,8 @@ first_or d [] = d
 first_or d (m ∷ ms) = m
 
 -- two ways of parting a list, of which the first comes earlier
-parted : (xs ys ps qs : List Mark) → xs ++ ys ≡ ps ++ qs → length qs ≤ length ys → (between : List Mark) × (ps ≡ xs ++ between) × (ys ≡ between ++ qs)
+parted : (xs ys ps qs : List Mark) → xs ++ ys ≡ ps ++ qs → length qs ≤ length ys → (between : List Mark)
+    × (ps ≡ xs ++ between) × (ys ≡ between ++ qs)
 parted [] ys ps qs is short = (ps, refl, is)
 parted (x ∷ xs) ys [] qs is short =
     let long : length (x ∷ (xs ++ ys)) ≡ length qs = ap length is in absurd (omega (arith, long, length-append xs ys))
@@ -99,7 +114,8 @@ unfolding ArePlaces
 are_all_places None at = tt
 are_all_places (Some p) at = are_places p (at.offset - p.offset)
 
-no_subscribed : (b more : List Mark) (recovered : Bool) (at : Position) → ArePlaces (b ++ Subscribed recovered at ∷ more) → ⊥
+no_subscribed : (b more : List Mark) (recovered : Bool) (at : Position)
+    → ArePlaces (b ++ Subscribed recovered at ∷ more) → ⊥
 unfolding ArePlaces
 no_subscribed [] more recovered at h = h
 no_subscribed (Published q ∷ b) more recovered at h = no_subscribed b more recovered at h
@@ -108,32 +124,39 @@ no_subscribed (Reads found ∷ b) more recovered at h = h
 no_subscribed (Subscribed r q ∷ b) more recovered at h = h
 no_subscribed (Stops ∷ b) more recovered at h = h
 
-whole_behind : (s : Seen) (b more : List Mark) (at : Position) → IsWhole s (b ++ Subscribed true at ∷ more) → more ≡ all_places (sees_all s b).old at
+whole_behind : (s : Seen) (b more : List Mark) (at : Position) → IsWhole s (b ++ Subscribed true at ∷ more)
+    → more ≡ all_places (sees_all s b).old at
 whole_behind s [] more at h = h
 whole_behind s (Asks from ∷ b) more at h = whole_behind (sees s (Asks from)) b more at h
 whole_behind s (Reads found ∷ b) more at h = whole_behind (sees s (Reads found)) b more at h
 whole_behind s (Published q ∷ b) more at h = whole_behind (sees s (Published q)) b more at h
 whole_behind s (Stops ∷ b) more at h = whole_behind (sees s Stops) b more at h
-whole_behind s (Subscribed true q ∷ b) more at h = absurd (no_subscribed b more true at (subst ArePlaces (sym h) (are_all_places s.old q)))
-whole_behind s (Subscribed false q ∷ b) more at h = absurd (no_subscribed b more true at (subst ArePlaces (sym h) nothing))
+whole_behind s (Subscribed true q ∷ b) more at h =
+    absurd (no_subscribed b more true at (subst ArePlaces (sym h) (are_all_places s.old q)))
+whole_behind s (Subscribed false q ∷ b) more at h =
+    absurd (no_subscribed b more true at (subst ArePlaces (sym h) nothing))
   where
     nothing : ArePlaces []
     nothing = are_all_places None q
 
 -- the event behind others is whole after what was seen of them
-whole_at : (s : Seen) (before after : List (List Mark)) (ms : List Mark) → IsSafe s (before ++ ms ∷ after) → IsWhole (sees_all s (all_of before)) ms
+whole_at : (s : Seen) (before after : List (List Mark)) (ms : List Mark) → IsSafe s (before ++ ms ∷ after)
+    → IsWhole (sees_all s (all_of before)) ms
 whole_at s [] after ms h = h.1
 whole_at s (b ∷ bs) after ms h =
     subst (λ (t : Seen). IsWhole t ms) (sym (sees_all-append s b (all_of bs))) (whole_at (sees_all s b) bs after ms h.2)
 
 -- what was seen when a mark of the event came
-seen_before : (xs between past : List Mark) → onto past [] ≡ xs ++ between → sees_all (sees_all nothing_seen xs) between ≡ seen_of past
+seen_before : (xs between past : List Mark) → onto past [] ≡ xs ++ between
+    → sees_all (sees_all nothing_seen xs) between ≡ seen_of past
 seen_before xs between past is =
     sym (sees_all-append nothing_seen xs between) ∙ (ap (sees_all nothing_seen) (sym is) ∙ sees_all-onto past [])
 
 pub recovered_of : (history : List (List Mark)) → IsSafe nothing_seen history → RecoveredRun history
 recovered_of history safe before after ms past more at is here inside =
-    let parts = parted (all_of before) ms (onto past []) (Subscribed true at ∷ more) (here ∙ onto-append past [] (Subscribed true at ∷ more)) inside in
+    let parts = parted (all_of before) ms (onto past []) (Subscribed true at ∷ more)
+    (here ∙ onto-append past [] (Subscribed true at ∷ more)) inside in
     let whole = whole_at nothing_seen before after ms (subst (IsSafe nothing_seen) is safe) in
-    let so = whole_behind (sees_all nothing_seen (all_of before)) parts.0 more at (subst (IsWhole (sees_all nothing_seen (all_of before))) parts.2 whole) in
+    let so = whole_behind (sees_all nothing_seen (all_of before)) parts.0 more at
+    (subst (IsWhole (sees_all nothing_seen (all_of before))) parts.2 whole) in
     so ∙ ap (λ (s : Seen). all_places s.old at) (seen_before (all_of before) parts.0 past parts.1)

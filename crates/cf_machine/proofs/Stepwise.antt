@@ -1,12 +1,14 @@
 -- A finish, note by note: after its reply a subscription passes one place after another, and then may end.
-use Rattle.std.proofs.Common.{◌≡◌, ℕ, zero, suc, ◌+◌, ◌∙◌, Bool, true, false, if◌then◌else◌, None, List, [], ◌∷◌, ◌++◌, refl, sym, ap, subst, arith, nat_le, sum_by, take}
+use Rattle.std.proofs.Common.{◌≡◌, ℕ, zero, suc, ◌+◌, ◌∙◌, Bool, true, false, if◌then◌else◌, None, List, [], ◌∷◌, ◌++◌}
+use Rattle.std.proofs.Common.{refl, sym, ap, subst, arith, nat_le, sum_by, take}
 use Rattle.std.specs.Str.{bytes_eq}
 use Rattle.cf_protocol.specs.Names.{with}
 use Rattle.cf_protocol.specs.Position.{Position}
 use Rattle.cf_protocol.specs.Note.{Lists, Reading, Note, Reply, Pub, End, Close}
 use Rattle.cf_model.specs.Recovery.{run_length, falls_short}
 use Rattle.cf_model.specs.Recovery.{next}
-use Rattle.cf_model.specs.Sessions.{Off, Asked, Ready, On, all_off, closes, closes_now, finish_at, most_waiting, push, put_sub, says, slow}
+use Rattle.cf_model.specs.Sessions.{Off, Asked, Ready, On, all_off, closes, closes_now, finish_at, most_waiting, push}
+use Rattle.cf_model.specs.Sessions.{put_sub, says, slow}
 use Rattle.cf_model.specs.Sessions.{pushes}
 use Rattle.cf_model.specs.Clients.{read_to}
 use Rattle.cf_machine.specs.ClientLink.{amid_at, over_at}
@@ -60,7 +62,9 @@ module _ (lists : Lists) (c : List ℕ) where
   says-closed [] s e = refl
   says-closed (n ∷ ns) s e = ap (says (wording lists) ns) (stays s.closed e) ∙ says-closed ns s e
     where
-      stays : (t : Bool) → t ≡ true → (if t then s else if nat_le (sum_by (wording lists).weight s.notes + (wording lists).weight n) most_waiting then record s { notes = s.notes ++ n ∷ [] } else closes (Close slow) s) ≡ s
+      stays : (t : Bool) → t ≡ true → (if t then s else if nat_le
+          (sum_by (wording lists).weight s.notes + (wording lists).weight n) most_waiting then record s
+          { notes = s.notes ++ n ∷ [] } else closes (Close slow) s) ≡ s
       stays true e = refl
       stays false e = absurd (cc)
 
@@ -70,17 +74,21 @@ module _ (lists : Lists) (c : List ℕ) where
       → ((s : Session) → G (closes (Close slow) s) ≡ closes (Close slow) s)
       → (s : Session) → says (wording lists) (n ∷ ns) (put_sub c x s) ≡ G (push (wording lists) n (put_sub c y s))
   one-more n ns x y G h g s =
-      both (says (wording lists) ns) G s.closed (nat_le (sum_by (wording lists).weight s.notes + (wording lists).weight n) most_waiting) _ _ _ _ _ _
+      both (says (wording lists) ns) G s.closed (nat_le
+      (sum_by (wording lists).weight s.notes + (wording lists).weight n) most_waiting) _ _ _ _ _ _
       (h s) (h (record s { notes = s.notes ++ n ∷ [] })) (says-closed ns (closes (Close slow) s) refl ∙ sym (g s))
 
   passes-closed : (n : ℕ) (s : Session) → passes lists c n (closes (Close slow) s) ≡ closes (Close slow) s
   passes-closed zero s = refl
   passes-closed (suc n) s = passes-closed n s
 
-  passes-on : (n : ℕ) (p : Position) (s : Session) → passes lists c (suc n) (put_sub c (On p None) s) ≡ passes lists c n (push (wording lists) (Pub c (next p)) (put_sub c (On (next p) None) s))
+  passes-on : (n : ℕ) (p : Position) (s : Session)
+      → passes lists c (suc n) (put_sub c (On p None) s)
+      ≡ passes lists c n (push (wording lists) (Pub c (next p)) (put_sub c (On (next p) None) s))
   passes-on n p s =
       ap (λ (x : Sub). passes lists c n (pass_at lists c x (put_sub c (On p None) s))) (with-same s.subs c (On p None))
-      ∙ ap (λ (v : Session). passes lists c n (push (wording lists) (Pub c (next p)) v)) (put_put c (On p None) (On (next p) None) s)
+      ∙ ap (λ (v : Session). passes lists c n (push (wording lists) (Pub c (next p)) v))
+      (put_put c (On p None) (On (next p) None) s)
 
   abbrev beyond : Position → ℕ → Position
   beyond p n = record { epoch = p.epoch; offset = p.offset + n }
@@ -101,42 +109,59 @@ module _ (lists : Lists) (c : List ℕ) where
   run-alike : (last : Position → Sub) (tail : List Note) (G : Session → Session)
       → ((q : Position) (s : Session) → says (wording lists) tail (put_sub c (last q) s) ≡ G (put_sub c (On q None) s))
       → ((s : Session) → G (closes (Close slow) s) ≡ closes (Close slow) s)
-      → (n : ℕ) (p : Position) (s : Session) → says (wording lists) (pushes c p n ++ tail) (put_sub c (last (beyond p n)) s) ≡ G (passes lists c n (put_sub c (On p None) s))
-  run-alike last tail G h g zero p s = subst (λ (q : Position). says (wording lists) tail (put_sub c (last q) s) ≡ G (put_sub c (On p None) s)) (sym (none-beyond p)) (h p s)
+      → (n : ℕ) (p : Position) (s : Session) → says (wording lists) (pushes c p n ++ tail)
+      (put_sub c (last (beyond p n)) s) ≡ G (passes lists c n (put_sub c (On p None) s))
+  run-alike last tail G h g zero p s =
+      subst (λ (q : Position). says (wording lists) tail (put_sub c (last q) s) ≡ G (put_sub c (On p None) s))
+      (sym (none-beyond p)) (h p s)
   run-alike last tail G h g (suc n) p s =
       ap (λ (q : Position). says (wording lists) (pushes c p (suc n) ++ tail) (put_sub c (last q) s)) (next-beyond p n)
-      ∙ one-more (Pub c (next p)) (pushes c (next p) n ++ tail) (last (beyond (next p) n)) (On (next p) None) (λ v. G (passes lists c n v))
+      ∙ one-more (Pub c (next p)) (pushes c (next p) n ++ tail) (last (beyond (next p) n)) (On (next p) None)
+      (λ v. G (passes lists c n v))
       (run-alike last tail G h g n (next p)) (λ v. ap G (passes-closed n v) ∙ g v) s
       ∙ sym (ap G (passes-on n p s))
 
-  ends-on : (q : Position) (s : Session) → says (wording lists) (End c ∷ []) (put_sub c Off s) ≡ ends lists c (put_sub c (On q None) s)
-  ends-on q s = sym (ap (λ (x : Sub). end_at lists c x (put_sub c (On q None) s)) (with-same s.subs c (On q None)) ∙ ap (push (wording lists) (End c)) (put_put c (On q None) Off s))
+  ends-on : (q : Position) (s : Session) → says (wording lists) (End c ∷ []) (put_sub c Off s)
+      ≡ ends lists c (put_sub c (On q None) s)
+  ends-on q s =
+      sym (ap (λ (x : Sub). end_at lists c x (put_sub c (On q None) s)) (with-same s.subs c (On q None))
+      ∙ ap (push (wording lists) (End c)) (put_put c (On q None) Off s))
 
   abbrev by_short : Bool → Session → Session
   by_short t s = if t then ends lists c s else s
 
   -- with the end or without it
   run-or_end : (t : Bool) (n : ℕ) (p : Position) (s : Session)
-      → says (wording lists) (pushes c p n ++ (if t then End c ∷ [] else [])) (put_sub c (if t then Off else On (beyond p n) None) s) ≡ by_short t (passes lists c n (put_sub c (On p None) s))
+      → says (wording lists) (pushes c p n ++ (if t then End c ∷ [] else []))
+      (put_sub c (if t then Off else On (beyond p n) None) s)
+      ≡ by_short t (passes lists c n (put_sub c (On p None) s))
   run-or_end true n p s = run-alike (λ q. Off) (End c ∷ []) (ends lists c) ends-on (λ v. refl) n p s
   run-or_end false n p s = run-alike (λ q. On q None) [] (λ v. v) (λ q v. refl) (λ v. refl) n p s
 
-  closed-by : (t : Bool) (n : ℕ) (s : Session) → by_short t (passes lists c n (closes (Close slow) s)) ≡ closes (Close slow) s
+  closed-by : (t : Bool) (n : ℕ) (s : Session) → by_short t (passes lists c n (closes (Close slow) s))
+      ≡ closes (Close slow) s
   closed-by true n s = ap (ends lists c) (passes-closed n s)
   closed-by false n s = passes-closed n s
 
   -- A FINISH, NOTE BY NOTE
   pub finish_steps : (k : ℕ) (was : Bool) (r : Reading) (arrived : List Position) (s : Session)
-      → finish_at (wording lists) c (Ready k was r arrived) s ≡ by_short (falls_short arrived r) (passes lists c (run_length arrived r) (push (wording lists) (Reply c k was r) (put_sub c (On (read_to r) None) s)))
+      → finish_at (wording lists) c (Ready k was r arrived) s
+      ≡ by_short (falls_short arrived r) (passes lists c (run_length arrived r)
+      (push (wording lists) (Reply c k was r) (put_sub c (On (read_to r) None) s)))
   finish_steps k was r arrived s =
-      one-more (Reply c k was r) (pushes c (read_to r) (run_length arrived r) ++ (if falls_short arrived r then End c ∷ [] else []))
+      one-more (Reply c k was r) (pushes c (read_to r) (run_length arrived r)
+      ++ (if falls_short arrived r then End c ∷ [] else []))
       (if falls_short arrived r then Off else On (beyond (read_to r) (run_length arrived r)) None) (On (read_to r) None)
       (λ v. by_short (falls_short arrived r) (passes lists c (run_length arrived r) v))
-      (run-or_end (falls_short arrived r) (run_length arrived r) (read_to r)) (closed-by (falls_short arrived r) (run_length arrived r)) s
+      (run-or_end (falls_short arrived r) (run_length arrived r) (read_to r))
+      (closed-by (falls_short arrived r) (run_length arrived r)) s
 
   pub over_steps : (k : ℕ) (was : Bool) (r : Reading) (arrived : List Position) (s : Session)
-      → over_at (wording lists) c (Ready k was r arrived) s ≡ ends lists c (push (wording lists) (Reply c k was r) (put_sub c (On (read_to r) None) s))
-  over_steps k was r arrived s = one-more (Reply c k was r) (End c ∷ []) Off (On (read_to r) None) (ends lists c) (ends-on (read_to r)) (λ v. refl) s
+      → over_at (wording lists) c (Ready k was r arrived) s
+      ≡ ends lists c (push (wording lists) (Reply c k was r) (put_sub c (On (read_to r) None) s))
+  over_steps k was r arrived s =
+      one-more (Reply c k was r) (End c ∷ []) Off (On (read_to r) None) (ends lists c) (ends-on (read_to r)) (λ v. refl)
+      s
 
   -- ---- a finish that is broken off
 
@@ -149,7 +174,8 @@ module _ (lists : Lists) (c : List ℕ) where
   unfolding IsTwin
   closes-twins x a b t = by_closed a.closed b.closed refl (sym t.1)
     where
-      by_closed : (u v : Bool) → a.closed ≡ u → b.closed ≡ a.closed → (if a.closed then a else closes x a) ≡ (if b.closed then b else closes x b)
+      by_closed : (u v : Bool) → a.closed ≡ u → b.closed ≡ a.closed
+          → (if a.closed then a else closes x a) ≡ (if b.closed then b else closes x b)
       by_closed true v e f =
           ap (λ (z : Bool). if z then a else closes x a) e
           ∙ (λ i. record { subs = t.2 e i; notes = t.0 i; closed = t.1 i })
@@ -160,14 +186,19 @@ module _ (lists : Lists) (c : List ℕ) where
           ∙ sym (ap (λ (z : Bool). if z then b else closes x b) (f ∙ e))
 
   -- one note more of both, where the one's subscription changes
-  push-twins : (n : Note) (s : Sub) (a b : Session) → IsTwin a b → a.closed ≡ false → IsTwin (push (wording lists) n a) (push (wording lists) n (put_sub c s b))
+  push-twins : (n : Note) (s : Sub) (a b : Session) → IsTwin a b → a.closed ≡ false
+      → IsTwin (push (wording lists) n a) (push (wording lists) n (put_sub c s b))
   unfolding IsTwin
   push-twins n s a b t e =
       let f : b.closed ≡ false = sym t.1 ∙ e in
-      let room : List Note → Bool = λ ns. nat_le (sum_by (wording lists).weight ns + (wording lists).weight n) most_waiting in
-      let more : Bool → Session → Session = λ z v. if z then record v { notes = v.notes ++ n ∷ [] } else closes (Close slow) v in
-      let left : push (wording lists) n a ≡ more (room a.notes) a = ap (λ (z : Bool). if z then a else more (room a.notes) a) e in
-      let right : push (wording lists) n (put_sub c s b) ≡ more (room b.notes) (put_sub c s b) = ap (λ (z : Bool). if z then put_sub c s b else more (room b.notes) (put_sub c s b)) f in
+      let room : List Note → Bool =
+      λ ns. nat_le (sum_by (wording lists).weight ns + (wording lists).weight n) most_waiting in
+      let more : Bool → Session → Session =
+      λ z v. if z then record v { notes = v.notes ++ n ∷ [] } else closes (Close slow) v in
+      let left : push (wording lists) n a ≡ more (room a.notes) a =
+      ap (λ (z : Bool). if z then a else more (room a.notes) a) e in
+      let right : push (wording lists) n (put_sub c s b) ≡ more (room b.notes) (put_sub c s b) =
+      ap (λ (z : Bool). if z then put_sub c s b else more (room b.notes) (put_sub c s b)) f in
       let cases : (z : Bool) → IsTwin (more z a) (more z (put_sub c s b)) =
       λ z. elim z as (λ z. IsTwin (more z a) (more z (put_sub c s b))) [
         | true ↦ (ap (λ (ns : List Note). ns ++ n ∷ []) t.0, t.1, λ h. absurd (cc))
@@ -186,18 +217,22 @@ module _ (lists : Lists) (c : List ℕ) where
 
   abbrev pub amid : ℕ → ℕ → Bool → Reading → List Position → Session → Session
   amid zero k was r arrived s = s
-  amid (suc m) k was r arrived s = amid_run (falls_short arrived r) (run_length arrived r) m (push (wording lists) (Reply c k was r) (put_sub c (On (read_to r) None) s))
+  amid (suc m) k was r arrived s =
+      amid_run (falls_short arrived r) (run_length arrived r) m
+      (push (wording lists) (Reply c k was r) (put_sub c (On (read_to r) None) s))
 
   -- how the channel stands amid it: at this place, and off where the session was closed
   IsStage : Position → Session → Type 0
   IsStage p s = (s.closed ≡ false → s.subs c ≡ On p None) × (s.closed ≡ true → s.subs c ≡ Off)
 
-  stage-push : (n : Note) (p : Position) (s : Session) → s.closed ≡ false → IsStage p (push (wording lists) n (put_sub c (On p None) s))
+  stage-push : (n : Note) (p : Position) (s : Session) → s.closed ≡ false
+      → IsStage p (push (wording lists) n (put_sub c (On p None) s))
   unfolding IsStage
   stage-push n p s e =
       let room : Bool = nat_le (sum_by (wording lists).weight s.notes + (wording lists).weight n) most_waiting in
       let put : Session = put_sub c (On p None) s in
-      let more : Bool → Session = λ z. if z then record put { notes = s.notes ++ n ∷ [] } else closes (Close slow) put in
+      let more : Bool → Session =
+      λ z. if z then record put { notes = s.notes ++ n ∷ [] } else closes (Close slow) put in
       let cases : (z : Bool) → IsStage p (more z) =
       λ z. elim z as (λ z. IsStage p (more z)) [
         | true ↦ ((λ h. with-same s.subs c (On p None)), λ h. absurd (let f : s.closed ≡ true = h in cc))
@@ -214,31 +249,40 @@ module _ (lists : Lists) (c : List ℕ) where
   stays-closed n s e = says-closed (n ∷ []) s e
 
   pass-twins : (p : Position) (a b : Session) → IsTwin a b → IsStage p b
-      → IsTwin (push (wording lists) (Pub c (next p)) a) (pass_at lists c (b.subs c) b) × IsStage (next p) (pass_at lists c (b.subs c) b)
+      → IsTwin (push (wording lists) (Pub c (next p)) a) (pass_at lists c (b.subs c) b)
+      × IsStage (next p) (pass_at lists c (b.subs c) b)
   unfolding IsTwin IsStage
   pass-twins p a b t g =
-      by_open (IsTwin (push (wording lists) (Pub c (next p)) a) (pass_at lists c (b.subs c) b) × IsStage (next p) (pass_at lists c (b.subs c) b)) a.closed
+      by_open (IsTwin (push (wording lists) (Pub c (next p)) a) (pass_at lists c (b.subs c) b)
+      × IsStage (next p) (pass_at lists c (b.subs c) b)) a.closed
       (λ e. let f : b.closed ≡ true = sym t.1 ∙ e in
       let same : pass_at lists c (b.subs c) b ≡ b = ap (λ (x : Sub). pass_at lists c x b) (g.1 f) in (
-        subst (IsTwin (push (wording lists) (Pub c (next p)) a)) (sym same) (subst (λ (v : Session). IsTwin v b) (sym (stays-closed (Pub c (next p)) a e)) t),
+        subst (IsTwin (push (wording lists) (Pub c (next p)) a)) (sym same)
+            (subst (λ (v : Session). IsTwin v b) (sym (stays-closed (Pub c (next p)) a e)) t),
         subst (IsStage (next p)) (sym same) ((λ h. absurd (cc)), g.1),
       ))
       (λ e. let f : b.closed ≡ false = sym t.1 ∙ e in
-      let same : pass_at lists c (b.subs c) b ≡ push (wording lists) (Pub c (next p)) (put_sub c (On (next p) None) b) = ap (λ (x : Sub). pass_at lists c x b) (g.0 f) in (
-        subst (IsTwin (push (wording lists) (Pub c (next p)) a)) (sym same) (push-twins (Pub c (next p)) (On (next p) None) a b t e),
+      let same : pass_at lists c (b.subs c) b ≡ push (wording lists) (Pub c (next p)) (put_sub c (On (next p) None) b) =
+      ap (λ (x : Sub). pass_at lists c x b) (g.0 f) in (
+        subst (IsTwin (push (wording lists) (Pub c (next p)) a)) (sym same)
+            (push-twins (Pub c (next p)) (On (next p) None) a b t e),
         subst (IsStage (next p)) (sym same) (stage-push (Pub c (next p)) (next p) b f),
       ))
 
-  end-twins : (p : Position) (a b : Session) → IsTwin a b → IsStage p b → IsTwin (push (wording lists) (End c) a) (ends lists c b)
+  end-twins : (p : Position) (a b : Session) → IsTwin a b → IsStage p b
+      → IsTwin (push (wording lists) (End c) a) (ends lists c b)
   unfolding IsTwin IsStage
   end-twins p a b t g =
       by_open (IsTwin (push (wording lists) (End c) a) (ends lists c b)) a.closed
       (λ e. let same : ends lists c b ≡ b = ap (λ (x : Sub). end_at lists c x b) (g.1 (sym t.1 ∙ e)) in
-      subst (IsTwin (push (wording lists) (End c) a)) (sym same) (subst (λ (v : Session). IsTwin v b) (sym (stays-closed (End c) a e)) t))
-      (λ e. subst (IsTwin (push (wording lists) (End c) a)) (sym (ap (λ (x : Sub). end_at lists c x b) (g.0 (sym t.1 ∙ e)))) (push-twins (End c) Off a b t e))
+      subst (IsTwin (push (wording lists) (End c) a)) (sym same)
+      (subst (λ (v : Session). IsTwin v b) (sym (stays-closed (End c) a e)) t))
+      (λ e. subst (IsTwin (push (wording lists) (End c) a))
+      (sym (ap (λ (x : Sub). end_at lists c x b) (g.0 (sym t.1 ∙ e)))) (push-twins (End c) Off a b t e))
 
   run-twins : (short : Bool) (run m : ℕ) (p : Position) (a b : Session) → IsTwin a b → IsStage p b
-      → IsTwin (says (wording lists) (take m (pushes c p run ++ (if short then End c ∷ [] else []))) a) (amid_run short run m b)
+      → IsTwin (says (wording lists) (take m (pushes c p run ++ (if short then End c ∷ [] else []))) a)
+      (amid_run short run m b)
   run-twins short run zero p a b t g = t
   run-twins true zero (suc zero) p a b t g = end-twins p a b t g
   run-twins true zero (suc (suc m)) p a b t g = end-twins p a b t g
@@ -252,22 +296,35 @@ module _ (lists : Lists) (c : List ℕ) where
       → amid_at (wording lists) c n code (Ready k was r arrived) s ≡ closes_now (Close code) (amid n k was r arrived s)
   unfolding IsTwin
   amid_steps code zero k was r arrived s e =
-      ap (λ (z : Bool). if z then s else if z then put_sub c (if falls_short arrived r then Off else On (beyond (read_to r) (run_length arrived r)) None) s else closes (Close code) s) e
+      ap (λ (z : Bool). if z then s else if z then put_sub c
+      (if falls_short arrived r then Off else On (beyond (read_to r) (run_length arrived r)) None) s
+      else closes (Close code) s) e
       ∙ sym (ap (λ (z : Bool). if z then s else closes (Close code) s) e)
   amid_steps code (suc m) k was r arrived s e =
       let last : Sub = if falls_short arrived r then Off else On (beyond (read_to r) (run_length arrived r)) None in
-      let told : Session = says (wording lists) (take (suc m) (Reply c k was r ∷ (pushes c (read_to r) (run_length arrived r) ++ (if falls_short arrived r then End c ∷ [] else [])))) (put_sub c last s) in
-      let first : IsTwin (push (wording lists) (Reply c k was r) (put_sub c last s)) (push (wording lists) (Reply c k was r) (put_sub c (On (read_to r) None) s)) =
+      let told : Session =
+      says (wording lists) (take (suc m) (Reply c k was r
+      ∷ (pushes c (read_to r) (run_length arrived r) ++ (if falls_short arrived r then End c ∷ [] else []))))
+      (put_sub c last s) in
+      let first : IsTwin (push (wording lists) (Reply c k was r) (put_sub c last s))
+      (push (wording lists) (Reply c k was r) (put_sub c (On (read_to r) None) s)) =
       push-twins (Reply c k was r) (On (read_to r) None) (put_sub c last s) s (refl, refl, λ h. absurd (cc)) e in
       ap (λ (z : Bool). if z then s else closes_now (Close code) told) e
       ∙ closes-twins (Close code) told (amid (suc m) k was r arrived s)
-      (run-twins (falls_short arrived r) (run_length arrived r) m (read_to r) _ _ first (stage-push (Reply c k was r) (read_to r) s e))
+      (run-twins (falls_short arrived r) (run_length arrived r) m (read_to r) _ _ first
+      (stage-push (Reply c k was r) (read_to r) s e))
 
   -- what holds of the session, and of that, holds after it
-  pub amid_cases : (P : Session → Type 0) (code n k : ℕ) (was : Bool) (r : Reading) (arrived : List Position) (s : Session)
-      → P s → (s.closed ≡ false → P (closes_now (Close code) (amid n k was r arrived s))) → P (amid_at (wording lists) c n code (Ready k was r arrived) s)
+  pub amid_cases : (P : Session → Type 0) (code n k : ℕ) (was : Bool) (r : Reading) (arrived : List Position)
+      (s : Session)
+      → P s → (s.closed ≡ false → P (closes_now (Close code) (amid n k was r arrived s)))
+      → P (amid_at (wording lists) c n code (Ready k was r arrived) s)
   amid_cases P code n k was r arrived s here broken =
-      let after : Session = closes_now (Close code) (says (wording lists) (take n (Reply c k was r ∷ (pushes c (read_to r) (run_length arrived r) ++ (if falls_short arrived r then End c ∷ [] else [])))) (put_sub c (if falls_short arrived r then Off else On (beyond (read_to r) (run_length arrived r)) None) s)) in
+      let after : Session =
+      closes_now (Close code) (says (wording lists)
+      (take n (Reply c k was r ∷ (pushes c (read_to r) (run_length arrived r)
+      ++ (if falls_short arrived r then End c ∷ [] else []))))
+      (put_sub c (if falls_short arrived r then Off else On (beyond (read_to r) (run_length arrived r)) None) s)) in
       by_open (P (amid_at (wording lists) c n code (Ready k was r arrived) s)) s.closed
       (λ e. subst P (sym (ap (λ (z : Bool). if z then s else after) e)) here)
       (λ e. subst P (sym (amid_steps code n k was r arrived s e)) (broken e))

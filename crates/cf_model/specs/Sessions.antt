@@ -240,7 +240,7 @@ spoken lists =
     record {
       reply = λ channel id was reading arrived. Reply channel id was reading;
       run = λ channel reading arrived. pushes channel (record { epoch = reading.epoch; offset = reading.top })
-      (run_length arrived reading);
+          (run_length arrived reading);
       reach = λ reading arrived. run_length arrived reading;
       falls_short = λ reading arrived. falls_short arrived reading;
       place = Pub;

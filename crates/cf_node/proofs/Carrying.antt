@@ -15,7 +15,8 @@ pub awaits_none : (p : Progress) → is_out p ≡ false → awaits p ≡ None
 awaits_none (Todo s) e = refl
 awaits_none (Out kind after) e = absurd (cc)
 
-pub can_go_on : (s : Session) → is_out (progress_of s) ≡ false → AskStreams (tables_of s).namespaces (progress_of s) → CanGoOn s
+pub can_go_on : (s : Session) → is_out (progress_of s) ≡ false → AskStreams (tables_of s).namespaces (progress_of s)
+    → CanGoOn s
 can_go_on s between asks = record { awaits = awaits_none (progress_of s) between; asks = asks }
 
 -- who stays short of memory once he was wasn't short before he isn't

@@ -1,10 +1,12 @@
--- What a node's calls answer a session: that of the channel's shard, at some point of a log. (This project's own profile.)
+-- What a node's calls answer a session: that of the channel's shard, at some point of a log. (This project's own
+-- profile.)
 use Rattle.std.specs.Prelude.{◌≡◌, ℕ, List, length, Option, Some, None}
 use Rattle.cf_protocol.specs.Datum.{Who}
 use Rattle.cf_protocol.specs.LogEntry.{Entry}
 use Rattle.cf_protocol.specs.Position.{Position}
 use Rattle.cf_protocol.specs.Settings.{NamespaceTable}
-use Rattle.cf_session.specs.Calls.{Answer, Refused, Done, Found, Attached, Call, Attach, Begin, Finish, Leave, Read, Publish, History, Presence, Stats}
+use Rattle.cf_session.specs.Calls.{Answer, Refused, Done, Found, Attached, Call, Attach, Begin, Finish, Leave, Read}
+use Rattle.cf_session.specs.Calls.{Publish, History, Presence, Stats}
 use Rattle.cf_session.specs.SessionMachine.{Act, Calls, Says, PassesPong, Closes}
 use Rattle.cf_shard.specs.LogAnswer.{IsPosition, IsPublished}
 use Rattle.cf_stream.specs.declared.answer.Published.{Published}

@@ -21,7 +21,8 @@ module _ {C : Type 0} (t : NamespaceTable) (closed : C → Bool) where
   -- Unless memory was refused, what was on its way goes on so.
   abbrev pub CarriesOn : Session → C → Session → C → Type 0
   CarriesOn old before new after =
-      met_refused_memory new ≡ false → LeadsOn closed (λ _ act a _. IsDone t act a) (progress_of old) before (progress_of new) after
+      met_refused_memory new ≡ false → LeadsOn closed (λ _ act a _. IsDone t act a) (progress_of old) before
+      (progress_of new) after
 
 -- A desk hears a text where it is to hear in this turn, a unit of the turn's budget is left, and the session is idle
 -- and not over.

@@ -12,7 +12,7 @@ use crate::command_handler::CommandHandler;
 use cf_dispatch::Outbox;
 use cf_queue::Out;
 use cf_session::laws::idle_can_go_on;
-use cf_session::{Budget, Desk, CommandExecutor, Session, carry_on, hear_text};
+use cf_session::{Budget, CommandExecutor, Desk, Session, carry_on, hear_text};
 use std::marker::PhantomData;
 use std::mem;
 

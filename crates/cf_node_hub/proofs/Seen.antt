@@ -1,5 +1,6 @@
 -- What is seen only grows, and what stands in it is listed.
-use Rattle.std.proofs.Common.{◌≡◌, ℕ, List, [], ◌∷◌, ◌++◌, Bool, true, false, cond, Some, refl, sym, ap, ◌∙◌, append_assoc, append-nil}
+use Rattle.std.proofs.Common.{◌≡◌, ℕ, List, [], ◌∷◌, ◌++◌, Bool, true, false, cond, Some, refl, sym, ap, ◌∙◌}
+use Rattle.std.proofs.Common.{append_assoc, append-nil}
 use Rattle.std.specs.Prelude.{◌&&◌, fold}
 use Rattle.std.specs.Str.{bytes_eq}
 use Rattle.std.proofs.lemmas.List.Sums.{fold-append}
@@ -39,13 +40,18 @@ turn-step q e t (Size name n) = on-same t.list
 turn-on : (q e : List ℕ) (more : List Entry) (t : Turn) → GoesOn t.list (fold (turn_after q e) t more).list
 turn-on q e [] t = on-same t.list
 turn-on q e (x ∷ more) t =
-    on-then t.list (turn_after q e t x).list (fold (turn_after q e) (turn_after q e t x) more).list (turn-step q e t x) (turn-on q e more (turn_after q e t x))
+    on-then t.list (turn_after q e t x).list (fold (turn_after q e) (turn_after q e t x) more).list (turn-step q e t x)
+    (turn-on q e more (turn_after q e t x))
 
 -- a list goes on as its log does
-pub listed-on : (q e : List ℕ) (log more : List Entry) → IsPrefix log more → GoesOn (listed_in log q e) (listed_in more q e)
+pub listed-on : (q e : List ℕ) (log more : List Entry) → IsPrefix log more
+    → GoesOn (listed_in log q e) (listed_in more q e)
 listed-on q e log more h =
-    let on = turn-on q e h.0 (fold (turn_after q e) no_turn log) in
-    (on.0, ap (λ (l : List Entry). listed_in l q e) (sym h.1) ∙ (ap (λ (t : Turn). t.list) (fold-append (turn_after q e) no_turn log h.0) ∙ on.1))
+    let on = turn-on q e h.0 (fold (turn_after q e) no_turn log) in (
+      on.0,
+      ap (λ (l : List Entry). listed_in l q e) (sym h.1)
+          ∙ (ap (λ (t : Turn). t.list) (fold-append (turn_after q e) no_turn log h.0) ∙ on.1),
+    )
 
 pub seen-grows : (old new : List PassState) → SeesOn old new → Grown (seen_lists old) (seen_lists new)
 seen-grows old new g = record { later = λ c e. listed-on c e (log_at old c) (log_at new c) (g c) }
@@ -59,11 +65,13 @@ sound-before old new g s = record {
   once = λ c e before h. s.once c e before (then-begins before (log_at old c) (log_at new c) h (g c));
   regular = λ c e p h. s.regular c e p (stands_on (log_at old c) (log_at new c) c e p (g c) h);
   positions = λ c e before h. s.positions c e before (then-begins before (log_at old c) (log_at new c) h (g c));
-  placed = λ c e before low count h. s.placed c e before low count (then-begins before (log_at old c) (log_at new c) h (g c));
+  placed = λ c e before low count h. s.placed c e before low count
+      (then-begins before (log_at old c) (log_at new c) h (g c));
 }
 
 -- what stands in a log that is seen is listed
-pub stands-listed : (seen : List PassState) (c e : List ℕ) (p : Placed) → IsSound seen → StandsIn (log_at seen c) c e p → IsListed (seen_lists seen) c e p
+pub stands-listed : (seen : List PassState) (c e : List ℕ) (p : Placed) → IsSound seen → StandsIn (log_at seen c) c e p
+    → IsListed (seen_lists seen) c e p
 stands-listed seen c e p sound h =
     let before : Lists = λ d f. listed_in h.before d f in
     let here : placed_at (listed_in h.before c e) p.offset ≡ Some p =

@@ -12,7 +12,8 @@ use Rattle.cf_shard.specs.LogAnswer.{IsReadAnswer}
 use Rattle.cf_node_hub.specs.Seen.{log_at}
 use Rattle.cf_node_hub.specs.Told.{Knowing}
 
--- which session it is of, and which channel; from where it asked; and what its node had seen of the channel's shard as it began
+-- which session it is of, and which channel; from where it asked; and what its node had seen of the channel's shard as
+-- it began
 pub record Ask : Type 0 where
   pub session : ℕ
   pub channel : List ℕ

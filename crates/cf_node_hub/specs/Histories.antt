@@ -27,4 +27,5 @@ pub record RepliesHistory (t : NamespaceTable) (log : List Entry) (channel text 
 -- the text is such a reply wherever this was answered
 abbrev pub SaysHistory : History → List ℕ → Type 0
 SaysHistory h text =
-    (t : NamespaceTable) (log : List Entry) (channel : List ℕ) → IsListedIn t log channel h → RepliesHistory t log channel text
+    (t : NamespaceTable) (log : List Entry) (channel : List ℕ) → IsListedIn t log channel h
+    → RepliesHistory t log channel text

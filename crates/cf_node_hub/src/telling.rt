@@ -20,7 +20,7 @@ use crate::begun::Begun;
 use crate::node_hub::NodeHub;
 use crate::replies::moves_are_among;
 use cf_hub::laws::what_is_said_stays;
-use cf_hub::{UnreadSubscription, Checked, Hub, Queued};
+use cf_hub::{Checked, Hub, Queued, UnreadSubscription};
 use cf_order::Pass;
 use cf_protocol::Position;
 use cf_shard::{Naming, ShardWords, shard_of};

@@ -95,12 +95,7 @@ impl ChannelClients {
     }
 
     /// A client enters at a moment, again or for the first time. Again under the same user it takes no memory.
-    pub(crate) fn enter(
-        &mut self,
-        client: &str,
-        user: &str,
-        now: u64,
-    ) -> Result<(), PresenceError>
+    pub(crate) fn enter(&mut self, client: &str, user: &str, now: u64) -> Result<(), PresenceError>
         ensures ok { OnOk result
             (self.new ≡ fin.insert self.old client.now (record { user = user.now; at = now })) }
         ensures err { OnErr result (self.new ≡ self.old) }

@@ -1,9 +1,11 @@
 -- Two trees of one text, of which the first is one that a text can have.
-use Rattle.std.proofs.Common.{◌≡◌, ℕ, zero, suc, ◌≤◌, ◌^◌, ◌<◌, Bool, true, false, List, [], ◌∷◌, ◌++◌, Option, Some, None, refl, ap, ◌∙◌, arith, ne_eqb, negsuc, codes, suc-le-suc, zero-le}
+use Rattle.std.proofs.Common.{◌≡◌, ℕ, zero, suc, ◌≤◌, ◌^◌, ◌<◌, Bool, true, false, List, [], ◌∷◌, ◌++◌, Option, Some}
+use Rattle.std.proofs.Common.{None, refl, ap, ◌∙◌, arith, ne_eqb, negsuc, codes, suc-le-suc, zero-le}
 use Rattle.std.specs.Prelude.{⊤, decimal}
 use Rattle.cf_json.specs.Grammar.{Tree, number, array, object, Parts, no_parts, part, IsText, depth, parts_depth}
 use Rattle.cf_json.specs.Compact.{compact_text, first_text, more_text, key_text, IsKey, IsRegular, AreRegular}
-use Rattle.cf_protocol.specs.Written.{Member, ◌⇒◌, parts_of, object_of, items_of, unless_empty, inner, whole, signed, flag, text, list, position, as_it_is}
+use Rattle.cf_protocol.specs.Written.{Member, ◌⇒◌, parts_of, object_of, items_of, unless_empty, inner, whole, signed}
+use Rattle.cf_protocol.specs.Written.{flag, text, list, position, as_it_is}
 use Rattle.cf_protocol.specs.Position.{Position}
 use Rattle.cf_protocol.specs.Fields.{max_u32}
 use Rattle.cf_protocol.specs.Command.{max_data_depth}
@@ -55,28 +57,44 @@ parts_shallow keyed d no_parts (part l u qs) h = absurd h
 parts_shallow keyed d (part k t ps) no_parts h = absurd h
 parts_shallow keyed d (part k t ps) (part l u qs) h = omega (arith, h.2.shallow, parts_shallow keyed d ps qs h.3)
 
-one_part : (keyed : Bool) (k l a b c e : List ℕ) → k ≡ l → a ≡ b → c ≡ e → key_text keyed k ++ (a ++ c) ≡ key_text keyed l ++ (b ++ e)
-one_part keyed k l a b c e f g h = ap (λ x. key_text keyed x ++ (a ++ c)) f ∙ ap (λ x. key_text keyed l ++ (x ++ c)) g ∙ ap (λ x. key_text keyed l ++ (b ++ x)) h
+one_part : (keyed : Bool) (k l a b c e : List ℕ) → k ≡ l → a ≡ b → c ≡ e
+    → key_text keyed k ++ (a ++ c) ≡ key_text keyed l ++ (b ++ e)
+one_part keyed k l a b c e f g h =
+    ap (λ x. key_text keyed x ++ (a ++ c)) f ∙ ap (λ x. key_text keyed l ++ (x ++ c)) g
+    ∙ ap (λ x. key_text keyed l ++ (b ++ x)) h
 
 more_same : (keyed : Bool) (d : ℕ) (ps qs : Parts) → AlikeParts keyed d ps qs → more_text keyed ps ≡ more_text keyed qs
 more_same keyed d no_parts no_parts h = refl
 more_same keyed d no_parts (part l u qs) h = absurd h
 more_same keyed d (part k t ps) no_parts h = absurd h
-more_same keyed d (part k t ps) (part l u qs) h = ap (λ s. 44 ∷ s) (one_part keyed k l (compact_text t) (compact_text u) (more_text keyed ps) (more_text keyed qs) h.0 h.2.text (more_same keyed d ps qs h.3))
+more_same keyed d (part k t ps) (part l u qs) h =
+    ap (λ s. 44 ∷ s) (one_part keyed k l (compact_text t) (compact_text u) (more_text keyed ps) (more_text keyed qs) h.0
+    h.2.text (more_same keyed d ps qs h.3))
 
-first_same : (keyed : Bool) (d : ℕ) (ps qs : Parts) → AlikeParts keyed d ps qs → first_text keyed ps ≡ first_text keyed qs
+first_same : (keyed : Bool) (d : ℕ) (ps qs : Parts) → AlikeParts keyed d ps qs
+    → first_text keyed ps ≡ first_text keyed qs
 first_same keyed d no_parts no_parts h = refl
 first_same keyed d no_parts (part l u qs) h = absurd h
 first_same keyed d (part k t ps) no_parts h = absurd h
-first_same keyed d (part k t ps) (part l u qs) h = one_part keyed k l (compact_text t) (compact_text u) (more_text keyed ps) (more_text keyed qs) h.0 h.2.text (more_same keyed d ps qs h.3)
+first_same keyed d (part k t ps) (part l u qs) h =
+    one_part keyed k l (compact_text t) (compact_text u) (more_text keyed ps) (more_text keyed qs) h.0 h.2.text
+    (more_same keyed d ps qs h.3)
 
 object_alike : (d : ℕ) (ps qs : Parts) → AlikeParts true d ps qs → Alike (suc d) (object ps) (object qs)
 object_alike d ps qs h =
-    record { regular = parts_regular true d ps qs h; text = ap (λ s. 123 ∷ (s ++ 125 ∷ [])) (first_same true d ps qs h); shallow = suc-le-suc (parts_shallow true d ps qs h) }
+    record {
+      regular = parts_regular true d ps qs h;
+      text = ap (λ s. 123 ∷ (s ++ 125 ∷ [])) (first_same true d ps qs h);
+      shallow = suc-le-suc (parts_shallow true d ps qs h);
+    }
 
 array_alike : (d : ℕ) (ps qs : Parts) → AlikeParts false d ps qs → Alike (suc d) (array ps) (array qs)
 array_alike d ps qs h =
-    record { regular = parts_regular false d ps qs h; text = ap (λ s. 91 ∷ (s ++ 93 ∷ [])) (first_same false d ps qs h); shallow = suc-le-suc (parts_shallow false d ps qs h) }
+    record {
+      regular = parts_regular false d ps qs h;
+      text = ap (λ s. 91 ∷ (s ++ 93 ∷ [])) (first_same false d ps qs h);
+      shallow = suc-le-suc (parts_shallow false d ps qs h);
+    }
 
 members_parts : (d : ℕ) (ms ns : List Member) → AlikeMembers d ms ns → AlikeParts true d (parts_of ms) (parts_of ns)
 members_parts d [] [] h = tt
@@ -96,7 +114,8 @@ items_parts d (t ∷ ts) (u ∷ us) h = (refl, refl, h.0, items_parts d ts us h.
 pub members_alike : (d : ℕ) (ms ns : List Member) → AlikeMembers d ms ns → Alike (suc d) (object_of ms) (object_of ns)
 members_alike d ms ns h = object_alike d (parts_of ms) (parts_of ns) (members_parts d ms ns h)
 
-unless_empty_alike : (d : ℕ) (ps qs : Parts) → AlikeParts true d ps qs → AlikeOptions (suc d) (unless_empty ps) (unless_empty qs)
+unless_empty_alike : (d : ℕ) (ps qs : Parts) → AlikeParts true d ps qs
+    → AlikeOptions (suc d) (unless_empty ps) (unless_empty qs)
 unless_empty_alike d no_parts no_parts h = tt
 unless_empty_alike d no_parts (part l u qs) h = absurd h
 unless_empty_alike d (part k t ps) no_parts h = absurd h
@@ -109,7 +128,8 @@ pub list_alike : (d : ℕ) (ts us : List Tree) → AlikeItems d ts us → AlikeO
 list_alike d [] [] h = tt
 list_alike d [] (u ∷ us) h = absurd h
 list_alike d (t ∷ ts) [] h = absurd h
-list_alike d (t ∷ ts) (u ∷ us) h = array_alike d (items_of (t ∷ ts)) (items_of (u ∷ us)) (items_parts d (t ∷ ts) (u ∷ us) h)
+list_alike d (t ∷ ts) (u ∷ us) h =
+    array_alike d (items_of (t ∷ ts)) (items_of (u ∷ us)) (items_parts d (t ∷ ts) (u ∷ us) h)
 
 -- ---- members
 
@@ -140,19 +160,30 @@ pub id_alike : (d id : ℕ) → id ≤ max_u32 → AlikeMembers d (("id" ⇒ who
 id_alike d id h = (refl, key "id" refl, whole_alike d id (omega arith), tt)
 
 -- the id and then the request, or the other way round
-pub id_first : (d id : ℕ) (k : Name) (t u : Tree) → is_plain (codes k) ≡ true → id ≤ max_u32 → Alike d t u → Alike (suc d) (object_of (("id" ⇒ whole id) ∷ (k ⇒ Some t) ∷ [])) (object_of (("id" ⇒ whole id) ∷ (k ⇒ Some u) ∷ []))
+pub id_first : (d id : ℕ) (k : Name) (t u : Tree) → is_plain (codes k) ≡ true → id ≤ max_u32 → Alike d t u
+    → Alike (suc d) (object_of (("id" ⇒ whole id) ∷ (k ⇒ Some t) ∷ []))
+    (object_of (("id" ⇒ whole id) ∷ (k ⇒ Some u) ∷ []))
 id_first d id k t u plain h a =
-    members_alike d (("id" ⇒ whole id) ∷ (k ⇒ Some t) ∷ []) (("id" ⇒ whole id) ∷ (k ⇒ Some u) ∷ []) (refl, key "id" refl, whole_alike d id (omega arith), (refl, key k plain, a, tt))
+    members_alike d (("id" ⇒ whole id) ∷ (k ⇒ Some t) ∷ []) (("id" ⇒ whole id) ∷ (k ⇒ Some u) ∷ [])
+    (refl, key "id" refl, whole_alike d id (omega arith), (refl, key k plain, a, tt))
 
-pub id_last : (d id : ℕ) (k : Name) (t u : Tree) → is_plain (codes k) ≡ true → id ≤ max_u32 → Alike d t u → Alike (suc d) (object_of ((k ⇒ Some t) ∷ ("id" ⇒ whole id) ∷ [])) (object_of ((k ⇒ Some u) ∷ ("id" ⇒ whole id) ∷ []))
+pub id_last : (d id : ℕ) (k : Name) (t u : Tree) → is_plain (codes k) ≡ true → id ≤ max_u32 → Alike d t u
+    → Alike (suc d) (object_of ((k ⇒ Some t) ∷ ("id" ⇒ whole id) ∷ []))
+    (object_of ((k ⇒ Some u) ∷ ("id" ⇒ whole id) ∷ []))
 id_last d id k t u plain h a =
-    members_alike d ((k ⇒ Some t) ∷ ("id" ⇒ whole id) ∷ []) ((k ⇒ Some u) ∷ ("id" ⇒ whole id) ∷ []) (refl, key k plain, a, id_alike d id h)
+    members_alike d ((k ⇒ Some t) ∷ ("id" ⇒ whole id) ∷ []) ((k ⇒ Some u) ∷ ("id" ⇒ whole id) ∷ [])
+    (refl, key k plain, a, id_alike d id h)
 
 pub nothing_alike : (d : ℕ) → Alike (suc d) (object_of []) (object_of [])
 nothing_alike d = members_alike d [] [] tt
 
 pub position_alike : JsonLaws → (d : ℕ) (p : Position) → IsPosition p → AlikeMembers d (position p) (position p)
-position_alike j d p h = (refl, key "epoch" refl, text_alike j d p.epoch, (refl, key "offset" refl, whole_alike d p.offset (let o = h.offset in omega arith), tt))
+position_alike j d p h = (
+  refl,
+  key "epoch" refl,
+  text_alike j d p.epoch,
+  (refl, key "offset" refl, whole_alike d p.offset (let o = h.offset in omega arith), tt),
+)
 
 pub body_alike : JsonLaws → (t : Tree) (b : List ℕ) → IsBodyOf t b → Alike max_data_depth t (as_it_is b)
 body_alike j t b h = record { regular = j.regular t b [] h.value; text = h.compact; shallow = h.shallow }

@@ -20,8 +20,10 @@ mutual
 
   length-first : (keyed : Bool) (ps : Parts) → length (first_text keyed ps) ≡ first_length keyed ps
   length-first keyed no_parts = refl
-  length-first keyed (part k t ps) = simp length-append (omega (arith, length-key keyed k, length-compact t, length-more keyed ps))
+  length-first keyed (part k t ps) =
+      simp length-append (omega (arith, length-key keyed k, length-compact t, length-more keyed ps))
 
   length-more : (keyed : Bool) (ps : Parts) → length (more_text keyed ps) ≡ more_length keyed ps
   length-more keyed no_parts = refl
-  length-more keyed (part k t ps) = simp length-append (omega (arith, length-key keyed k, length-compact t, length-more keyed ps))
+  length-more keyed (part k t ps) =
+      simp length-append (omega (arith, length-key keyed k, length-compact t, length-more keyed ps))

@@ -17,13 +17,17 @@ pub record IsObject (text : List ℕ) (ms : List (String Global × Span)) (t : T
   pub is : as_object t ≡ Some fields
   pub reads : Reads text ms fields
 
-pub object_by : (text : List ℕ) (ms : List (String Global × Span)) (t : Tree) → IsSomeAnd (as_object t) (λ fs. Reads text ms fs) → IsObject text ms t
-object_by text ms t h = let p = some_and (as_object t) (λ fs. Reads text ms fs) h in record { fields = p.0; is = p.1; reads = p.2 }
+pub object_by : (text : List ℕ) (ms : List (String Global × Span)) (t : Tree)
+    → IsSomeAnd (as_object t) (λ fs. Reads text ms fs) → IsObject text ms t
+object_by text ms t h = let p = some_and (as_object t) (λ fs. Reads text ms fs) h in
+    record { fields = p.0; is = p.1; reads = p.2 }
 
-by_items : {A : Type 0} (read : Tree → Option A) (o : Option Tree) → read_or [] (λ t. as_items t >>= read_all read) o ≡ (read_or [] as_items o >>= read_all read)
+by_items : {A : Type 0} (read : Tree → Option A) (o : Option Tree)
+    → read_or [] (λ t. as_items t >>= read_all read) o ≡ (read_or [] as_items o >>= read_all read)
 by_items read None = refl
 by_items read (Some t) = refl
 
 -- a list of objects is read by its items
-pub objects_by_items : {A : Type 0} (f : Fields → Option A) (fs : Fields) (k : Name) → objects f fs k ≡ (items_at (codes k) fs >>= read_all (object_as f))
+pub objects_by_items : {A : Type 0} (f : Fields → Option A) (fs : Fields) (k : Name)
+    → objects f fs k ≡ (items_at (codes k) fs >>= read_all (object_as f))
 objects_by_items f fs k = by_items (object_as f) (present fs k)

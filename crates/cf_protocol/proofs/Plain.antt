@@ -24,5 +24,8 @@ plain_escaped (x ∷ xs) h =
     let parts = and_parts (is_plain x) (list_all is_plain xs) h in
     ap (λ e. e ++ escaped xs) (plain_escape x parts.0) ∙ ap (λ s. x ∷ s) (plain_escaped xs parts.1)
 
-pub between_quotes : (a b c d : Writer) (s : List ℕ) → list_all is_plain s ≡ true → Grows a b (34 ∷ []) → Grows b c s → Grows c d (34 ∷ []) → Grows a d (quoted s)
-between_quotes a b c d s plain f g h = join a c d (34 ∷ s) (34 ∷ []) (quoted s) (join a b c (34 ∷ []) s (34 ∷ s) f g refl) h (ap (λ e. 34 ∷ (e ++ 34 ∷ [])) (sym (plain_escaped s plain)))
+pub between_quotes : (a b c d : Writer) (s : List ℕ) → list_all is_plain s ≡ true → Grows a b (34 ∷ []) → Grows b c s
+    → Grows c d (34 ∷ []) → Grows a d (quoted s)
+between_quotes a b c d s plain f g h =
+    join a c d (34 ∷ s) (34 ∷ []) (quoted s) (join a b c (34 ∷ []) s (34 ∷ s) f g refl) h
+    (ap (λ e. 34 ∷ (e ++ 34 ∷ [])) (sym (plain_escaped s plain)))

@@ -1,5 +1,6 @@
 -- What stands in a table.
-use Rattle.std.proofs.Common.{arith, ◌≡◌, ℕ, true, false, cond, List, [], ◌∷◌, length, map, Option, Some, None, option_map, IfSome, refl, sym, ap, ◌∙◌, ◌==◌, String, Global}
+use Rattle.std.proofs.Common.{arith, ◌≡◌, ℕ, true, false, cond, List, [], ◌∷◌, length, map, Option, Some, None}
+use Rattle.std.proofs.Common.{option_map, IfSome, refl, sym, ap, ◌∙◌, ◌==◌, String, Global}
 use Rattle.std.specs.List.{All}
 use Rattle.std.specs.Str.{bytes_eq}
 use Rattle.std.specs.String.{string_bytes}
@@ -8,7 +9,8 @@ use Rattle.std.proofs.lemmas.Bool.{eqb-true}
 use Rattle.cf_protocol.specs.Settings.{entry_at, named, in_bytes, user_of, TokenTable}
 
 -- what every value has, the one under a name has
-pub entry_at-All : {V : Type 0} (P : V → Type 0) (t : List (List ℕ × V)) (k : List ℕ) → All (λ e. P e.1) t → IfSome (entry_at t k) P
+pub entry_at-All : {V : Type 0} (P : V → Type 0) (t : List (List ℕ × V)) (k : List ℕ) → All (λ e. P e.1) t
+    → IfSome (entry_at t k) P
 entry_at-All P [] k a = tt
 entry_at-All P (e ∷ t) k a =
     elim (bytes_eq e.0 k) as (λ b. IfSome (cond b (Some e.1) (entry_at t k)) P) [
@@ -17,10 +19,12 @@ entry_at-All P (e ∷ t) k a =
     ]
 
 -- a table with a function of its values
-pub entry_at-map : {K V W : Type 0} (name : K → List ℕ) (f : V → W) (t : List (K × V)) (k : List ℕ) → entry_at (map (λ e. (name e.0, f e.1)) t) k ≡ option_map f (entry_at (map (λ e. (name e.0, e.1)) t) k)
+pub entry_at-map : {K V W : Type 0} (name : K → List ℕ) (f : V → W) (t : List (K × V)) (k : List ℕ)
+    → entry_at (map (λ e. (name e.0, f e.1)) t) k ≡ option_map f (entry_at (map (λ e. (name e.0, e.1)) t) k)
 entry_at-map name f [] k = refl
 entry_at-map name f (e ∷ t) k =
-    elim (bytes_eq (name e.0) k) as (λ b. cond b (Some (f e.1)) (entry_at (map (λ e. (name e.0, f e.1)) t) k) ≡ option_map f (cond b (Some e.1) (entry_at (map (λ e. (name e.0, e.1)) t) k))) [
+    elim (bytes_eq (name e.0) k) as (λ b. cond b (Some (f e.1)) (entry_at (map (λ e. (name e.0, f e.1)) t) k)
+    ≡ option_map f (cond b (Some e.1) (entry_at (map (λ e. (name e.0, e.1)) t) k))) [
       | true ↦ refl
       | false ↦ entry_at-map name f t k
     ]
@@ -30,11 +34,14 @@ unmapped f None h = refl
 unmapped f (Some x) h = absurd (cc)
 
 -- a token stands with its user's bytes where it stands with its user
-pub absent_in_bytes : (es : List (String Global × String Global)) (k : List ℕ) → entry_at (named es) k ≡ None → entry_at (in_bytes es) k ≡ None
+pub absent_in_bytes : (es : List (String Global × String Global)) (k : List ℕ) → entry_at (named es) k ≡ None
+    → entry_at (in_bytes es) k ≡ None
 absent_in_bytes es k h = entry_at-map string_bytes string_bytes es k ∙ ap (option_map string_bytes) h
 
-pub absent_named : (es : List (String Global × String Global)) (k : List ℕ) → entry_at (in_bytes es) k ≡ None → entry_at (named es) k ≡ None
-absent_named es k h = unmapped string_bytes (entry_at (named es) k) (sym (entry_at-map string_bytes string_bytes es k) ∙ h)
+pub absent_named : (es : List (String Global × String Global)) (k : List ℕ) → entry_at (in_bytes es) k ≡ None
+    → entry_at (named es) k ≡ None
+absent_named es k h =
+    unmapped string_bytes (entry_at (named es) k) (sym (entry_at-map string_bytes string_bytes es k) ∙ h)
 
 -- a token that isn't empty is looked up
 pub user_of-looked_up : (t : TokenTable) (k : List ℕ) → (length k == 0) ≡ false → user_of t k ≡ entry_at t k

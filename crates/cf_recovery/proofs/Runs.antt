@@ -1,5 +1,6 @@
 -- The run of a release is the greatest that is unbroken, and what arrives is a set.
-use Rattle.std.proofs.Common.{◌≡◌, ℕ, zero, suc, ◌+◌, ◌-◌, ◌≤◌, ◌<◌, ◌==◌, ◌&&◌, ◌||◌, ◌↔◌, Bool, true, false, List, [], ◌∷◌, refl, subst, arith, ◌≢◌, ◌⊎◌, inl, inr, if◌then◌else◌, nat_le, not}
+use Rattle.std.proofs.Common.{◌≡◌, ℕ, zero, suc, ◌+◌, ◌-◌, ◌≤◌, ◌<◌, ◌==◌, ◌&&◌, ◌||◌, ◌↔◌, Bool, true, false, List, []}
+use Rattle.std.proofs.Common.{◌∷◌, refl, subst, arith, ◌≢◌, ◌⊎◌, inl, inr, if◌then◌else◌, nat_le, not}
 use Rattle.std.specs.Str.{bytes_eq}
 use Rattle.std.proofs.lemmas.Slice.Eq.{bytes_eq-Decides}
 use Rattle.std.proofs.lemmas.Bool.Decides.{nat_tests}
@@ -16,7 +17,8 @@ text_tells a b = by_value (bytes_eq a b) (bytes_eq-Decides a b)
     by_value true h = inl (refl, h.0 refl)
     by_value false h = inr (refl, λ e. let f = h.1 e in absurd (cc))
 
-by_test : {A : Type 0} (P : A → Type 0) (b : Bool) (x y : A) → (b ≡ true → P x) → (b ≡ false → P y) → P (if b then x else y)
+by_test : {A : Type 0} (P : A → Type 0) (b : Bool) (x y : A) → (b ≡ true → P x) → (b ≡ false → P y)
+    → P (if b then x else y)
 by_test P true x y h k = h refl
 by_test P false x y h k = k refl
 
@@ -26,9 +28,11 @@ absorbed : (a b h : Bool) (q : Position) (e : List ℕ) (i : ℕ) → (a ≡ tru
 absorbed true b h q e i k = k refl
 absorbed false b h q e i k = refl
 
-pub member : (q : Position) (arrived : List Position) (e : List ℕ) (i : ℕ) → has (arrives q arrived) e i ≡ ((bytes_eq q.epoch e && (q.offset == i)) || has arrived e i)
+pub member : (q : Position) (arrived : List Position) (e : List ℕ) (i : ℕ)
+    → has (arrives q arrived) e i ≡ ((bytes_eq q.epoch e && (q.offset == i)) || has arrived e i)
 member q ps e i =
-    by_test (λ (v : List Position). has v e i ≡ ((bytes_eq q.epoch e && (q.offset == i)) || has ps e i)) (has ps q.epoch q.offset) _ _
+    by_test (λ (v : List Position). has v e i ≡ ((bytes_eq q.epoch e && (q.offset == i)) || has ps e i))
+    (has ps q.epoch q.offset) _ _
     (λ h. absorbed (bytes_eq q.epoch e && (q.offset == i)) (has ps e i) true q e i (same h)) (λ h. refl)
   where
     both : (bytes_eq q.epoch e && (q.offset == i)) ≡ true → (q.epoch ≡ e) × (q.offset ≡ i)
@@ -42,7 +46,8 @@ once q ps h = by_test AreOnce (has ps q.epoch q.offset) _ _ (λ k. h) (λ k. (k,
 
 -- ---- the run
 
-has-cases : (p : Position) (ps : List Position) (e : List ℕ) (o : ℕ) → has (p ∷ ps) e o ≡ true → ((p.epoch ≡ e) × (p.offset ≡ o)) ⊎ (has ps e o ≡ true)
+has-cases : (p : Position) (ps : List Position) (e : List ℕ) (o : ℕ) → has (p ∷ ps) e o ≡ true
+    → ((p.epoch ≡ e) × (p.offset ≡ o)) ⊎ (has ps e o ≡ true)
 has-cases p ps e o k = grind (arith, nat_tests, text_tells)
 
 pub below-highest : (ps : List Position) (e : List ℕ) (o : ℕ) → has ps e o ≡ true → o ≤ highest ps
@@ -63,7 +68,8 @@ parted : (k n : ℕ) → k < suc n → (k < n) ⊎ (k ≡ n)
 parted k n h = grind (arith, nat_tests)
 
 -- all n arrived exactly where each did
-pub all_true : (ps : List Position) (e : List ℕ) (o n k : ℕ) → all_arrived ps e o n ≡ true → k < n → has ps e (o + 1 + k) ≡ true
+pub all_true : (ps : List Position) (e : List ℕ) (o n k : ℕ) → all_arrived ps e o n ≡ true → k < n
+    → has ps e (o + 1 + k) ≡ true
 all_true ps e o zero k h l = absurd (omega arith)
 all_true ps e o (suc n) k h l =
     let a = and-parts (all_arrived ps e o n) (has ps e (o + suc n)) h in
@@ -72,7 +78,8 @@ all_true ps e o (suc n) k h l =
       | inr i ↦ let z : o + 1 + k ≡ o + suc n = omega arith in rw z a.1
     ]
 
-pub all_made : (ps : List Position) (e : List ℕ) (o n : ℕ) → ((k : ℕ) → k < n → has ps e (o + 1 + k) ≡ true) → all_arrived ps e o n ≡ true
+pub all_made : (ps : List Position) (e : List ℕ) (o n : ℕ) → ((k : ℕ) → k < n → has ps e (o + 1 + k) ≡ true)
+    → all_arrived ps e o n ≡ true
 all_made ps e o zero h = refl
 all_made ps e o (suc n) h =
     both (all_arrived ps e o n) (has ps e (o + suc n)) (all_made ps e o n (λ k l. h k (omega arith)))
@@ -83,7 +90,8 @@ pub passes : (test : ℕ → Bool) (n : ℕ) → (greatest test n ≡ 0) ⊎ (te
 passes test zero = inl refl
 passes test (suc n) = by_value (test (suc n)) refl (passes test n)
   where
-    by_value : (b : Bool) → test (suc n) ≡ b → (greatest test n ≡ 0) ⊎ (test (greatest test n) ≡ true) → ((if b then suc n else greatest test n) ≡ 0) ⊎ (test (if b then suc n else greatest test n) ≡ true)
+    by_value : (b : Bool) → test (suc n) ≡ b → (greatest test n ≡ 0) ⊎ (test (greatest test n) ≡ true)
+        → ((if b then suc n else greatest test n) ≡ 0) ⊎ (test (if b then suc n else greatest test n) ≡ true)
     by_value true e h = inr e
     by_value false e h = h
 
@@ -94,7 +102,8 @@ at_most test (suc n) m l h = by_value (test (suc n)) refl (λ i. at_most test n 
     false-true : (b : Bool) → b ≡ true → b ≡ false → ⊥
     false-true b x y = cc
 
-    by_value : (b : Bool) → test (suc n) ≡ b → (m ≤ n → m ≤ greatest test n) → m ≤ (if b then suc n else greatest test n)
+    by_value : (b : Bool) → test (suc n) ≡ b → (m ≤ n → m ≤ greatest test n)
+        → m ≤ (if b then suc n else greatest test n)
     by_value true e g = l
     by_value false e g =
         let less : m < suc (suc n) = omega arith in
@@ -118,7 +127,8 @@ reached ps r i h k =
               subst (λ x. has ps r.epoch x ≡ true) at (all_true ps r.epoch r.top _ (i - (r.top + 1)) all less)
         ]
 
-pub furthest : (arrived : List Position) (r : Reading) (n : ℕ) → overfull arrived ≡ false → Reaches arrived r.epoch r.top n → n ≤ r.top + run_length arrived r
+pub furthest : (arrived : List Position) (r : Reading) (n : ℕ) → overfull arrived ≡ false
+    → Reaches arrived r.epoch r.top n → n ≤ r.top + run_length arrived r
 furthest ps r n h reaches =
     by_test (λ v. n ≤ r.top + v) (overfull ps) _ _ (λ x. absurd (cc)) (λ x. beyond (nat_le n r.top) refl)
   where
@@ -127,8 +137,10 @@ furthest ps r n h reaches =
     beyond false e =
         let above : r.top < n = grind (arith, nat_tests) in
         let high : n ≤ highest ps = below-highest ps r.epoch n (reaches n above (omega arith)) in
-        let all : all_arrived ps r.epoch r.top (n - r.top) ≡ true = all_made ps r.epoch r.top (n - r.top) (λ k l. reaches (r.top + 1 + k) (omega arith) (omega arith)) in
-        let far : n - r.top ≤ greatest (all_arrived ps r.epoch r.top) (highest ps) = at_most (all_arrived ps r.epoch r.top) (highest ps) (n - r.top) (omega arith) all in
+        let all : all_arrived ps r.epoch r.top (n - r.top) ≡ true =
+        all_made ps r.epoch r.top (n - r.top) (λ k l. reaches (r.top + 1 + k) (omega arith) (omega arith)) in
+        let far : n - r.top ≤ greatest (all_arrived ps r.epoch r.top) (highest ps) =
+        at_most (all_arrived ps r.epoch r.top) (highest ps) (n - r.top) (omega arith) all in
         omega arith
 
 pub none : (arrived : List Position) (r : Reading) → overfull arrived ≡ true → run_length arrived r ≡ 0
@@ -136,10 +148,12 @@ none ps r h = rw h refl
 
 -- ---- what falls short
 
-within-tail : (p : Position) (ps : List Position) (e : List ℕ) (high : ℕ) → all_within (p ∷ ps) e high ≡ true → (p.epoch ≡ e) × (p.offset ≤ high) × (all_within ps e high ≡ true)
+within-tail : (p : Position) (ps : List Position) (e : List ℕ) (high : ℕ) → all_within (p ∷ ps) e high ≡ true
+    → (p.epoch ≡ e) × (p.offset ≤ high) × (all_within ps e high ≡ true)
 within-tail p ps e high h = grind (arith, nat_tests, text_tells)
 
-within-cons : (p : Position) (ps : List Position) (e : List ℕ) (high : ℕ) → p.epoch ≡ e → p.offset ≤ high → all_within ps e high ≡ true → all_within (p ∷ ps) e high ≡ true
+within-cons : (p : Position) (ps : List Position) (e : List ℕ) (high : ℕ) → p.epoch ≡ e → p.offset ≤ high
+    → all_within ps e high ≡ true → all_within (p ∷ ps) e high ≡ true
 within-cons p ps e high h i k = grind (arith, nat_tests, text_tells)
 
 pub lies-within : (ps : List Position) (e : List ℕ) (high : ℕ) → all_within ps e high ≡ true → LiesWithin ps e high
@@ -169,8 +183,12 @@ or_not a b h = grind arith
 not_or : (a b : Bool) → a ≡ false → b ≡ true → (a || not b) ≡ false
 not_or a b h k = grind arith
 
-pub sufficient : (arrived : List Position) (r : Reading) → (falls_short arrived r ≡ false) ↔ ((overfull arrived ≡ false) × LiesWithin arrived r.epoch (r.top + run_length arrived r))
+pub sufficient : (arrived : List Position) (r : Reading)
+    → (falls_short arrived r ≡ false) ↔ ((overfull arrived ≡ false)
+    × LiesWithin arrived r.epoch (r.top + run_length arrived r))
 sufficient ps r = (
-  (λ h. let x = or_not (overfull ps) (all_within ps r.epoch (r.top + run_length ps r)) h in (x.0, lies-within ps r.epoch (r.top + run_length ps r) x.1)),
-  (λ h. not_or (overfull ps) (all_within ps r.epoch (r.top + run_length ps r)) h.0 (within-lies ps r.epoch (r.top + run_length ps r) h.1)),
+  (λ h. let x = or_not (overfull ps) (all_within ps r.epoch (r.top + run_length ps r))
+      h in (x.0, lies-within ps r.epoch (r.top + run_length ps r) x.1)),
+  (λ h. not_or (overfull ps) (all_within ps r.epoch (r.top + run_length ps r)) h.0
+      (within-lies ps r.epoch (r.top + run_length ps r) h.1)),
 )

@@ -1,5 +1,7 @@
 -- A shard's log gains an entry, and the machine's broker goes with it.
-use Rattle.std.proofs.Common.{◌≡◌, ◌≢◌, ◌⊎◌, inl, inr, ◌<◌, ◌≤◌, ℕ, ◌+◌, ◌==◌, nat_lt, ◌&&◌, not, Bool, true, false, if◌then◌else◌, cond, is_some, Option, Some, None, List, [], ◌∷◌, ◌++◌, length, append-nil, append_assoc, refl, sym, ap, subst, ◌∙◌, arith}
+use Rattle.std.proofs.Common.{◌≡◌, ◌≢◌, ◌⊎◌, inl, inr, ◌<◌, ◌≤◌, ℕ, ◌+◌, ◌==◌, nat_lt, ◌&&◌, not, Bool, true, false}
+use Rattle.std.proofs.Common.{if◌then◌else◌, cond, is_some, Option, Some, None, List, [], ◌∷◌, ◌++◌, length, append-nil}
+use Rattle.std.proofs.Common.{append_assoc, refl, sym, ap, subst, ◌∙◌, arith}
 use Rattle.std.specs.Prelude.{is_none}
 use Rattle.std.specs.Option.{option_map}
 use Rattle.std.specs.Str.{bytes_eq}
@@ -32,9 +34,13 @@ use Rattle.cf_machine.proofs.Brokering.{lists-trim}
 use Rattle.cf_machine.specs.Lives.{life_by}
 use Rattle.cf_running.specs.ShardLogs.{IsLogOf, is_about, IsIn, IsApart, MayGain, happening_of}
 use Rattle.cf_running.specs.Server as server
-use Rattle.cf_running.specs.Server.{Server, Site, Connection, Work, Free, Began, HasRead, ToFinish, ToGiveUp, ToPublish, ToList, ToSay, at_number, change, gathered, gathered_in, lists_of, life_of, log_of, is_in, may_gain, can_gain, place_in}
-use Rattle.cf_running.proofs.Gaining.{Accepts, gain, Gains, gained-world, gains, keeps-mine, keeps-other, life-more, publish-stands, stands-below, list-cases}
-use Rattle.cf_running.proofs.Beside.{Linked, Beside, Follows, none, quietly, and_then, number_tells, at-same, at-other, connection-step}
+use Rattle.cf_running.specs.Server.{Server, Site, Connection, Work, Free, Began, HasRead, ToFinish, ToGiveUp, ToPublish}
+use Rattle.cf_running.specs.Server.{ToList, ToSay, at_number, change, gathered, gathered_in, lists_of, life_of, log_of}
+use Rattle.cf_running.specs.Server.{is_in, may_gain, can_gain, place_in}
+use Rattle.cf_running.proofs.Gaining.{Accepts, gain, Gains, gained-world, gains, keeps-mine, keeps-other, life-more}
+use Rattle.cf_running.proofs.Gaining.{publish-stands, stands-below, list-cases}
+use Rattle.cf_running.proofs.Beside.{Linked, Beside, Follows, none, quietly, and_then, number_tells, at-same, at-other}
+use Rattle.cf_running.proofs.Beside.{connection-step}
 use Rattle.cf_running.proofs.Turns as turns
 
 -- ---- what a log has of a channel
@@ -42,22 +48,27 @@ use Rattle.cf_running.proofs.Turns as turns
 abbrev epoch_of : Option Life → Option (List ℕ)
 epoch_of o = option_map (λ l. l.epoch) o
 
-gathered-more : (log : List Entry) (x : Entry) (q e : List ℕ) → gathered_in (log ++ x ∷ []) q e ≡ gathered q e (gathered_in log q e) x
+gathered-more : (log : List Entry) (x : Entry) (q e : List ℕ)
+    → gathered_in (log ++ x ∷ []) q e ≡ gathered q e (gathered_in log q e) x
 gathered-more log x q e = fold-append (gathered q e) (None, []) log (x ∷ [])
 
-mapped-epoch : (f : Life → Life) → ((l : Life) → (f l).epoch ≡ l.epoch) → (o : Option Life) → epoch_of (option_map f o) ≡ epoch_of o
+mapped-epoch : (f : Life → Life) → ((l : Life) → (f l).epoch ≡ l.epoch) → (o : Option Life)
+    → epoch_of (option_map f o) ≡ epoch_of o
 mapped-epoch f h None = refl
 mapped-epoch f h (Some l) = ap Some (h l)
 
-by_bool : (t : Bool) (p q : Option (List ℕ) × List Datum) (x y : Option Life) → p.0 ≡ epoch_of x → q.0 ≡ epoch_of y → (if t then p else q).0 ≡ epoch_of (cond t x y)
+by_bool : (t : Bool) (p q : Option (List ℕ) × List Datum) (x y : Option Life) → p.0 ≡ epoch_of x → q.0 ≡ epoch_of y
+    → (if t then p else q).0 ≡ epoch_of (cond t x y)
 by_bool true p q x y h k = h
 by_bool false p q x y h k = k
 
-keeps_some : (t : Bool) (n : ℕ) (p : Option (List ℕ) × List Datum) (o : Option Life) → p.0 ≡ epoch_of o → p.0 ≡ epoch_of (cond t (option_map (kept_newest n) o) o)
+keeps_some : (t : Bool) (n : ℕ) (p : Option (List ℕ) × List Datum) (o : Option Life) → p.0 ≡ epoch_of o
+    → p.0 ≡ epoch_of (cond t (option_map (kept_newest n) o) o)
 keeps_some true n p o h = h ∙ sym (mapped-epoch (kept_newest n) (λ l. refl) o)
 keeps_some false n p o h = h
 
-gathered-step : (sizes : NamespaceTable) (q e : List ℕ) (p : Option (List ℕ) × List Datum) (o : Option Life) (x : Entry) → p.0 ≡ epoch_of o → (gathered q e p x).0 ≡ epoch_of (changed sizes q o x)
+gathered-step : (sizes : NamespaceTable) (q e : List ℕ) (p : Option (List ℕ) × List Datum) (o : Option Life) (x : Entry)
+    → p.0 ≡ epoch_of o → (gathered q e p x).0 ≡ epoch_of (changed sizes q o x)
 gathered-step sizes q e p o (Open c i) h = by_bool (bytes_eq c q) (Some i, p.1) p (Some (opened_life i)) o refl h
 gathered-step sizes q e p o (Publish c key d) h = keeps (bytes_eq c q) (is_in e p.0)
   where
@@ -72,9 +83,11 @@ gathered-step sizes q e p o (Trim c n) h = keeps_some (bytes_eq c q) n p o h
 gathered-step sizes q e p o (Forget c) h = by_bool (bytes_eq c q) (None, p.1) p None o refl h
 gathered-step sizes q e p o (Size name n) h = keeps_some (in_namespace name q) n p o h
 
-gathered-from : (sizes : NamespaceTable) (q e : List ℕ) (es log : List Entry) → (gathered_in log q e).0 ≡ epoch_of (life_in sizes log q)
+gathered-from : (sizes : NamespaceTable) (q e : List ℕ) (es log : List Entry)
+    → (gathered_in log q e).0 ≡ epoch_of (life_in sizes log q)
     → (gathered_in (log ++ es) q e).0 ≡ epoch_of (life_in sizes (log ++ es) q)
-gathered-from sizes q e [] log h = subst (λ l. (gathered_in l q e).0 ≡ epoch_of (life_in sizes l q)) (sym (append-nil log)) h
+gathered-from sizes q e [] log h =
+    subst (λ l. (gathered_in l q e).0 ≡ epoch_of (life_in sizes l q)) (sym (append-nil log)) h
 gathered-from sizes q e (x ∷ es) log h =
     subst (λ l. (gathered_in l q e).0 ≡ epoch_of (life_in sizes l q)) (append_assoc log (x ∷ []) es)
     (gathered-from sizes q e es (log ++ x ∷ [])
@@ -83,11 +96,13 @@ gathered-from sizes q e (x ∷ es) log h =
     ∙ ap epoch_of (sym (life-more sizes log x q))))
 
 -- the epoch that is gathered is the stream's
-gathered-epoch : (sizes : NamespaceTable) (log : List Entry) (q e : List ℕ) → (gathered_in log q e).0 ≡ epoch_of (life_in sizes log q)
+gathered-epoch : (sizes : NamespaceTable) (log : List Entry) (q e : List ℕ)
+    → (gathered_in log q e).0 ≡ epoch_of (life_in sizes log q)
 gathered-epoch sizes log q e = gathered-from sizes q e log [] refl
 
 -- an entry that isn't about the channel
-gathered-not : (its : List ℕ → Bool) (q e : List ℕ) (p : Option (List ℕ) × List Datum) (x : Entry) → is_about its x q ≡ false → gathered q e p x ≡ p
+gathered-not : (its : List ℕ → Bool) (q e : List ℕ) (p : Option (List ℕ) × List Datum) (x : Entry)
+    → is_about its x q ≡ false → gathered q e p x ≡ p
 gathered-not its q e p (Open c i) h = ap (λ (t : Bool). if t then (Some i, p.1) else p) h
 gathered-not its q e p (Publish c key d) h = ap (λ (t : Bool). if t && is_in e p.0 then (p.0, p.1 ++ d ∷ []) else p) h
 gathered-not its q e p (Trim c n) h = refl
@@ -158,7 +173,8 @@ quiet-entry its w (Trim c k) n = refl
 quiet-entry its w (Forget c) n = refl
 quiet-entry its w (Size name k) n = refl
 
-module _ (site : Site) (s : Server) (w : World) (b : Beside site s w) (over : (c : List ℕ) → StandsOver (w.broker.lists c) (w.broker.streams c))
+module _ (site : Site) (s : Server) (w : World) (b : Beside site s w)
+    (over : (c : List ℕ) → StandsOver (w.broker.lists c) (w.broker.streams c))
     (keyed : (c e : List ℕ) → length (w.broker.keys c e) ≡ length (w.broker.lists c e)) where
   abbrev cfg : Config
   cfg = site.config
@@ -184,37 +200,49 @@ module _ (site : Site) (s : Server) (w : World) (b : Beside site s w) (over : (c
     | inr e ↦ absurd (both_ways (its n q) e.0 (in_it q h))
   ]
 
-  its-gains : (n : ℕ) (x : Entry) → IsIn (its n) x → can_gain site n x s ≡ true → Gains cfg (its n) (sizes_in cfg.namespaces (s.logs n)) w x
-  its-gains n x in_it can = gains cfg (its n) (s.logs n) w b.waits over keyed (b.logs n) x in_it (may-gain cfg (s.logs n) x can)
+  its-gains : (n : ℕ) (x : Entry) → IsIn (its n) x → can_gain site n x s ≡ true
+      → Gains cfg (its n) (sizes_in cfg.namespaces (s.logs n)) w x
+  its-gains n x in_it can =
+      gains cfg (its n) (s.logs n) w b.waits over keyed (b.logs n) x in_it (may-gain cfg (s.logs n) x can)
 
   -- where a publication finds its stream
   abbrev StreamOf : (channel key : List ℕ) → Type 0
-  StreamOf c key = (t : StreamState) × (w.broker.streams c ≡ Some t) × (nat_lt t.top last_offset ≡ true) × (repeat_of key (w.broker.keys c t.epoch) ≡ None)
+  StreamOf c key =
+      (t : StreamState) × (w.broker.streams c ≡ Some t) × (nat_lt t.top last_offset ≡ true)
+      × (repeat_of key (w.broker.keys c t.epoch) ≡ None)
 
-  its-stream : (c key : List ℕ) (d : Datum) → can_gain site (site.shard_of c) (Publish c key d) s ≡ true → StreamOf c key
+  its-stream : (c key : List ℕ) (d : Datum) → can_gain site (site.shard_of c) (Publish c key d) s ≡ true
+      → StreamOf c key
   its-stream c key d can =
       stands-below (w.broker.lists c) (w.broker.keys c) key (w.broker.streams c) (over c)
-      (subst (Accepts key) (sym ((b.logs (site.shard_of c)).life c (own (site.shard_of c)))) (may-gain cfg (s.logs (site.shard_of c)) (Publish c key d) can).1)
+      (subst (Accepts key) (sym ((b.logs (site.shard_of c)).life c (own (site.shard_of c))))
+      (may-gain cfg (s.logs (site.shard_of c)) (Publish c key d) can).1)
 
   -- ---- the lists
 
   -- an entry gathers what its happening lists
   abbrev Gathers : ℕ → Entry → Type 0
-  Gathers n x = (q e : List ℕ) → (gain cfg (its n) x w.broker).lists q e ≡ (gathered q e (gathered_in (log_of site s q) q e) x).1
+  Gathers n x =
+      (q e : List ℕ) → (gain cfg (its n) x w.broker).lists q e ≡ (gathered q e (gathered_in (log_of site s q) q e) x).1
 
   open-gathers : (n : ℕ) (c i : List ℕ) → Gathers n (Open c i)
-  open-gathers n c i q e = b.listed q e ∙ sym (same_second (bytes_eq c q) (Some i, (gathered_in (log_of site s q) q e).1) (gathered_in (log_of site s q) q e) refl)
+  open-gathers n c i q e =
+      b.listed q e ∙ sym (same_second (bytes_eq c q) (Some i, (gathered_in (log_of site s q) q e).1)
+      (gathered_in (log_of site s q) q e) refl)
 
   trim-gathers : (n : ℕ) (c : List ℕ) (k : ℕ) → Gathers n (Trim c k)
   trim-gathers n c k q e = ap (λ (l : Lists). l q e) (lists-trim c k w.broker) ∙ b.listed q e
 
   forget-gathers : (n : ℕ) (c : List ℕ) → Gathers n (Forget c)
-  forget-gathers n c q e = b.listed q e ∙ sym (same_second (bytes_eq c q) (None, (gathered_in (log_of site s q) q e).1) (gathered_in (log_of site s q) q e) refl)
+  forget-gathers n c q e =
+      b.listed q e ∙ sym (same_second (bytes_eq c q) (None, (gathered_in (log_of site s q) q e).1)
+      (gathered_in (log_of site s q) q e) refl)
 
   size-gathers : (n : ℕ) (name : List ℕ) (k : ℕ) → Gathers n (Size name k)
   size-gathers n name k q e = b.listed q e
 
-  publish-gathers : (c key : List ℕ) (d : Datum) → can_gain site (site.shard_of c) (Publish c key d) s ≡ true → Gathers (site.shard_of c) (Publish c key d)
+  publish-gathers : (c key : List ℕ) (d : Datum) → can_gain site (site.shard_of c) (Publish c key d) s ≡ true
+      → Gathers (site.shard_of c) (Publish c key d)
   publish-gathers c key d can q e =
       let at = its-stream c key d can in
       ap (λ (v : Broker). v.lists q e) (publish-stands (size_of cfg c w.broker) c key d at.0 w.broker at.1 at.2 at.3)
@@ -231,46 +259,61 @@ module _ (site : Site) (s : Server) (w : World) (b : Beside site s w) (over : (c
           ∙ ap (λ (z : List ℕ). epoch_of (life_by (w.broker.lists z) (w.broker.keys z) (w.broker.streams z))) h
           ∙ ap (λ (o : Option StreamState). epoch_of (life_by (w.broker.lists c) (w.broker.keys c) o)) at.1
 
-      by_epoch : (at : StreamOf c key) → q ≡ c → ((bytes_eq e at.0.epoch ≡ true) × (e ≡ at.0.epoch)) ⊎ ((bytes_eq e at.0.epoch ≡ false) × (e ≢ at.0.epoch))
-          → list_with c at.0.epoch d w.broker.lists q e ≡ (if bytes_eq c q && is_in e p.0 then (p.0, p.1 ++ d ∷ []) else p).1
+      by_epoch : (at : StreamOf c key) → q ≡ c → ((bytes_eq e at.0.epoch ≡ true) × (e ≡ at.0.epoch))
+          ⊎ ((bytes_eq e at.0.epoch ≡ false) × (e ≢ at.0.epoch))
+          → list_with c at.0.epoch d w.broker.lists q e
+          ≡ (if bytes_eq c q && is_in e p.0 then (p.0, p.1 ++ d ∷ []) else p).1
       by_epoch at h (inl k) =
-          ap (λ (f : List ℕ → List Datum). f e) (ap (λ (z : List ℕ). list_with c at.0.epoch d w.broker.lists z) h ∙ with-same w.broker.lists c (with (w.broker.lists c) at.0.epoch (w.broker.lists c at.0.epoch ++ d ∷ [])))
+          ap (λ (f : List ℕ → List Datum). f e) (ap (λ (z : List ℕ). list_with c at.0.epoch d w.broker.lists z) h
+          ∙ with-same w.broker.lists c (with (w.broker.lists c) at.0.epoch (w.broker.lists c at.0.epoch ++ d ∷ [])))
           ∙ ap (with (w.broker.lists c) at.0.epoch (w.broker.lists c at.0.epoch ++ d ∷ [])) k.1
           ∙ with-same (w.broker.lists c) at.0.epoch (w.broker.lists c at.0.epoch ++ d ∷ [])
           ∙ (λ i. w.broker.lists (sym h i) (sym k.1 i) ++ d ∷ [])
           ∙ ap (λ (ds : List Datum). ds ++ d ∷ []) (b.listed q e)
-          ∙ sym (λ i. (if this_one q c h i && (ap (is_in e) (its-epoch at h) ∙ k.0) i then (p.0, p.1 ++ d ∷ []) else p).1)
+          ∙ sym (λ i. (if this_one q c h i && (ap (is_in e) (its-epoch at h) ∙ k.0) i then (p.0, p.1 ++ d ∷ [])
+          else p).1)
       by_epoch at h (inr k) =
           elim (list-cases w.broker.lists c at.0.epoch d q e) [
-            | inl same ↦ same ∙ b.listed q e ∙ sym (λ i. (if this_one q c h i && (ap (is_in e) (its-epoch at h) ∙ k.0) i then (p.0, p.1 ++ d ∷ []) else p).1)
+            | inl same ↦
+                same ∙ b.listed q e ∙ sym (λ i. (if this_one q c h i
+                && (ap (is_in e) (its-epoch at h) ∙ k.0) i then (p.0, p.1 ++ d ∷ []) else p).1)
             | inr same ↦ absurd (k.1 same.1)
           ]
 
       by_channel : (at : StreamOf c key) → ((bytes_eq q c ≡ true) × (q ≡ c)) ⊎ ((bytes_eq q c ≡ false) × (q ≢ c))
-          → list_with c at.0.epoch d w.broker.lists q e ≡ (if bytes_eq c q && is_in e p.0 then (p.0, p.1 ++ d ∷ []) else p).1
+          → list_with c at.0.epoch d w.broker.lists q e
+          ≡ (if bytes_eq c q && is_in e p.0 then (p.0, p.1 ++ d ∷ []) else p).1
       by_channel at (inl h) = by_epoch at h.1 (text_tells e at.0.epoch)
       by_channel at (inr h) =
-          ap (λ (f : List ℕ → List Datum). f e) (with-other w.broker.lists c (with (w.broker.lists c) at.0.epoch (w.broker.lists c at.0.epoch ++ d ∷ [])) q h.1)
+          ap (λ (f : List ℕ → List Datum). f e) (with-other w.broker.lists c
+          (with (w.broker.lists c) at.0.epoch (w.broker.lists c at.0.epoch ++ d ∷ [])) q h.1)
           ∙ b.listed q e
-          ∙ sym (ap (λ (z : Option (List ℕ) × List Datum). z.1) (gathered-not (its (site.shard_of c)) q e p (Publish c key d) (not_this c q (λ i. h.1 (sym i)))))
+          ∙ sym (ap (λ (z : Option (List ℕ) × List Datum). z.1)
+          (gathered-not (its (site.shard_of c)) q e p (Publish c key d) (not_this c q (λ i. h.1 (sym i)))))
 
-  listed-after : (n : ℕ) (x : Entry) → IsIn (its n) x → Gathers n x → (q e : List ℕ) → (gain cfg (its n) x w.broker).lists q e ≡ lists_of site (server.gain n x s) q e
+  listed-after : (n : ℕ) (x : Entry) → IsIn (its n) x → Gathers n x → (q e : List ℕ)
+      → (gain cfg (its n) x w.broker).lists q e ≡ lists_of site (server.gain n x s) q e
   listed-after n x in_it gathers q e =
       elim (number_tells (site.shard_of q) n) [
         | inl h ↦
             gathers q e
             ∙ ap (λ (z : Option (List ℕ) × List Datum). z.1) (sym (gathered-more (log_of site s q) x q e))
             ∙ (λ i. (gathered_in (s.logs (h.1 i) ++ x ∷ []) q e).1)
-            ∙ sym (ap (λ (l : List Entry). (gathered_in l q e).1) (ap (at_number s.logs n (s.logs n ++ x ∷ [])) h.1 ∙ at-same s.logs n (s.logs n ++ x ∷ [])))
+            ∙ sym (ap (λ (l : List Entry). (gathered_in l q e).1)
+            (ap (at_number s.logs n (s.logs n ++ x ∷ [])) h.1 ∙ at-same s.logs n (s.logs n ++ x ∷ [])))
         | inr h ↦
             gathers q e
-            ∙ ap (λ (z : Option (List ℕ) × List Datum). z.1) (gathered-not (its n) q e (gathered_in (log_of site s q) q e) x (false_from_ne_true (is_about (its n) x q) (λ i. both_ways (its n q) h.0 (in_it q i))))
-            ∙ sym (ap (λ (l : List Entry). (gathered_in l q e).1) (at-other s.logs n (s.logs n ++ x ∷ []) (site.shard_of q) h.1))
+            ∙ ap (λ (z : Option (List ℕ) × List Datum). z.1)
+            (gathered-not (its n) q e (gathered_in (log_of site s q) q e) x
+            (false_from_ne_true (is_about (its n) x q) (λ i. both_ways (its n q) h.0 (in_it q i))))
+            ∙ sym (ap (λ (l : List Entry). (gathered_in l q e).1)
+            (at-other s.logs n (s.logs n ++ x ∷ []) (site.shard_of q) h.1))
       ]
 
   -- ---- the whole
 
-  entry-beside : (n : ℕ) (x : Entry) → IsIn (its n) x → can_gain site n x s ≡ true → Gathers n x → (accepted : List Place) → (gain cfg (its n) x w.broker).accepted ≡ accepted
+  entry-beside : (n : ℕ) (x : Entry) → IsIn (its n) x → can_gain site n x s ≡ true → Gathers n x
+      → (accepted : List Place) → (gain cfg (its n) x w.broker).accepted ≡ accepted
       → Beside site (record (server.gain n x s) { accepted = accepted }) (broker_with (gain cfg (its n) x w.broker) w)
   entry-beside n x in_it can gathers accepted e =
       let g = its-gains n x in_it can in
@@ -281,10 +324,12 @@ module _ (site : Site) (s : Server) (w : World) (b : Beside site s w) (over : (c
         logs = λ m. elim (number_tells m n) [
           | inl h ↦
               subst (λ z. IsLogOf (its z) cfg.namespaces (at_number s.logs n log z) now) (sym h.1)
-              (subst (λ l. IsLogOf (its n) cfg.namespaces l now) (sym (at-same s.logs n log)) (keeps-mine cfg (its n) (s.logs n) w x g (b.logs n)))
+              (subst (λ l. IsLogOf (its n) cfg.namespaces l now) (sym (at-same s.logs n log))
+              (keeps-mine cfg (its n) (s.logs n) w x g (b.logs n)))
           | inr h ↦
               subst (λ l. IsLogOf (its m) cfg.namespaces l now) (sym (at-other s.logs n log m h.1))
-              (keeps-other cfg (its n) (sizes_in cfg.namespaces (s.logs n)) w x g (its m) (s.logs m) (b.logs m) (of_none n m h.1 x in_it))
+              (keeps-other cfg (its n) (sizes_in cfg.namespaces (s.logs n)) w x g (its m) (s.logs m) (b.logs m)
+              (of_none n m h.1 x in_it))
         ];
         listed = listed-after n x in_it gathers;
         accepted = e;
@@ -292,13 +337,18 @@ module _ (site : Site) (s : Server) (w : World) (b : Beside site s w) (over : (c
         owns = b.owns;
       }
 
-  entry-follows : (n : ℕ) (x : Entry) → IsIn (its n) x → can_gain site n x s ≡ true → Gathers n x → (accepted : List Place) → (gain cfg (its n) x w.broker).accepted ≡ accepted
+  entry-follows : (n : ℕ) (x : Entry) → IsIn (its n) x → can_gain site n x s ≡ true → Gathers n x
+      → (accepted : List Place) → (gain cfg (its n) x w.broker).accepted ≡ accepted
       → Follows cfg w [] (Beside site (record (server.gain n x s) { accepted = accepted }))
   entry-follows n x in_it can gathers accepted e =
       quietly cfg w (happening_of (its n) x) _ (quiet-entry (its n) w x)
-      (subst (Beside site (record (server.gain n x s) { accepted = accepted })) (sym (gained-world cfg (its n) w x (its-gains n x in_it can).allowed)) (entry-beside n x in_it can gathers accepted e))
+      (subst (Beside site (record (server.gain n x s) { accepted = accepted }))
+      (sym (gained-world cfg (its n) w x (its-gains n x in_it can).allowed))
+      (entry-beside n x in_it can gathers accepted e))
 
-  gains-step : (n : ℕ) (x : Entry) → IsIn (its n) x → Gathers n x → (gain cfg (its n) x w.broker).accepted ≡ w.broker.accepted → Follows cfg w [] (Beside site (server.gains site n x s))
+  gains-step : (n : ℕ) (x : Entry) → IsIn (its n) x → Gathers n x
+      → (gain cfg (its n) x w.broker).accepted ≡ w.broker.accepted
+      → Follows cfg w [] (Beside site (server.gains site n x s))
   gains-step n x in_it gathers e =
       by_test (λ (v : Server). Follows cfg w [] (Beside site v)) (can_gain site n x s) _ _
       (λ can. entry-follows n x in_it can gathers s.accepted (e ∙ b.accepted)) (λ can. none cfg w (Beside site s) b)
@@ -310,52 +360,67 @@ module _ (site : Site) (s : Server) (w : World) (b : Beside site s w) (over : (c
   trim-accepted c n None = refl
   trim-accepted c n (Some t) = refl
 
-  pub trims-step : (c : List ℕ) (n : ℕ) → Follows cfg w [] (Beside site (server.gains site (site.shard_of c) (Trim c n) s))
-  trims-step c n = gains-step (site.shard_of c) (Trim c n) (of_channel c) (trim-gathers (site.shard_of c) c n) (trim-accepted c n (w.broker.streams c))
+  pub trims-step : (c : List ℕ) (n : ℕ) → Follows cfg w []
+      (Beside site (server.gains site (site.shard_of c) (Trim c n) s))
+  trims-step c n =
+      gains-step (site.shard_of c) (Trim c n) (of_channel c) (trim-gathers (site.shard_of c) c n)
+      (trim-accepted c n (w.broker.streams c))
 
   pub forgets-step : (c : List ℕ) → Follows cfg w [] (Beside site (server.gains site (site.shard_of c) (Forget c) s))
   forgets-step c = gains-step (site.shard_of c) (Forget c) (of_channel c) (forget-gathers (site.shard_of c) c) refl
 
-  pub sizes-step : (shard : ℕ) (name : List ℕ) (n : ℕ) → Follows cfg w [] (Beside site (server.gains site shard (Size name n) s))
+  pub sizes-step : (shard : ℕ) (name : List ℕ) (n : ℕ)
+      → Follows cfg w [] (Beside site (server.gains site shard (Size name n) s))
   sizes-step shard name n = gains-step shard (Size name n) (of_shard shard name n) (size-gathers shard name n) refl
 
   -- ---- an accepted publish
 
   its-place : (c key : List ℕ) (d : Datum) → can_gain site (site.shard_of c) (Publish c key d) s ≡ true
-      → (gain cfg (its (site.shard_of c)) (Publish c key d) w.broker).accepted ≡ s.accepted ++ place_in c (life_of site s c)
+      → (gain cfg (its (site.shard_of c)) (Publish c key d) w.broker).accepted ≡ s.accepted
+      ++ place_in c (life_of site s c)
   its-place c key d can =
       let at = its-stream c key d can in
-      let below : (at.0.top ≡ length (w.broker.lists c at.0.epoch)) × (at.0.held ≤ at.0.top) = subst (StandsOver (w.broker.lists c)) at.1 (over c) in
+      let below : (at.0.top ≡ length (w.broker.lists c at.0.epoch)) × (at.0.held ≤ at.0.top) =
+      subst (StandsOver (w.broker.lists c)) at.1 (over c) in
       ap (λ (v : Broker). v.accepted) (publish-stands (size_of cfg c w.broker) c key d at.0 w.broker at.1 at.2 at.3)
       ∙ (λ i. b.accepted i ++ record { channel = c; at = record { epoch = at.0.epoch; offset = below.0 i + 1 } } ∷ [])
       ∙ ap (λ (o : Option Life). s.accepted ++ place_in c o)
-      (sym (ap (life_by (w.broker.lists c) (w.broker.keys c)) at.1) ∙ (b.logs (site.shard_of c)).life c (own (site.shard_of c)))
+      (sym (ap (life_by (w.broker.lists c) (w.broker.keys c)) at.1)
+      ∙ (b.logs (site.shard_of c)).life c (own (site.shard_of c)))
 
-  accepts-step : (c key : List ℕ) (d : Datum) → can_gain site (site.shard_of c) (Publish c key d) s ≡ true → Follows cfg w [] (Beside site (server.accepts site c key d s))
+  accepts-step : (c key : List ℕ) (d : Datum) → can_gain site (site.shard_of c) (Publish c key d) s ≡ true
+      → Follows cfg w [] (Beside site (server.accepts site c key d s))
   accepts-step c key d can =
-      entry-follows (site.shard_of c) (Publish c key d) (of_channel c) can (publish-gathers c key d can) (s.accepted ++ place_in c (life_of site s c)) (its-place c key d can)
+      entry-follows (site.shard_of c) (Publish c key d) (of_channel c) can (publish-gathers c key d can)
+      (s.accepted ++ place_in c (life_of site s c)) (its-place c key d can)
 
 -- its answer is on its way
-answered : (k : Connection) (c : Client) (l : ClientLink) (d : List ℕ) (id : ℕ) (key : List ℕ) (x : Datum) (h : Work) → h ≡ ToPublish d id key x → Linked (record k { work = h }) c l
+answered : (k : Connection) (c : Client) (l : ClientLink) (d : List ℕ) (id : ℕ) (key : List ℕ) (x : Datum) (h : Work)
+    → h ≡ ToPublish d id key x → Linked (record k { work = h }) c l
     → Linked (record k { work = ToSay d (Put id) }) c l
 answered k c l d id key x h e i =
-    let j : Linked (record k { work = ToPublish d id key x }) c l = subst (λ z. Linked (record k { work = z }) c l) e i in
+    let j : Linked (record k { work = ToPublish d id key x }) c l =
+    subst (λ z. Linked (record k { work = z }) c l) e i in
     record { extra = j.extra; is = j.is; due = j.due; settled = j.settled; right = tt }
 
-pub publishes-step : (site : Site) (s : Server) (w : World) (b : Beside site s w) (over : (c : List ℕ) → StandsOver (w.broker.lists c) (w.broker.streams c))
+pub publishes-step : (site : Site) (s : Server) (w : World) (b : Beside site s w)
+    (over : (c : List ℕ) → StandsOver (w.broker.lists c) (w.broker.streams c))
     (keyed : (c e : List ℕ) → length (w.broker.keys c e) ≡ length (w.broker.lists c e))
-    (k : ℕ) (h : Work) → (s.connections k).work ≡ h → Follows site.config w [] (Beside site (server.publishes site k h s))
+    (k : ℕ) (h : Work) → (s.connections k).work ≡ h
+    → Follows site.config w [] (Beside site (server.publishes site k h s))
 publishes-step site s w b over keyed k (ToPublish c id key d) e =
     by_test P (server.repeats key (life_of site s c)) _ _
     (λ r. is_answered s w b e)
     (λ r. by_test P (can_gain site (site.shard_of c) (Publish c key d) s) _ _
-    (λ can. and_then site.config w [] [] _ _ (accepts-step site s w b over keyed c key d can) (λ v bv. is_answered (server.accepts site c key d s) v bv e))
+    (λ can. and_then site.config w [] [] _ _ (accepts-step site s w b over keyed c key d can)
+    (λ v bv. is_answered (server.accepts site c key d s) v bv e))
     (λ can. none site.config w (Beside site s) b))
   where
     P : Server → Type 0
     P v = Follows site.config w [] (Beside site v)
 
-    is_answered : (t : Server) (v : World) → Beside site t v → (t.connections k).work ≡ ToPublish c id key d → Follows site.config v [] (Beside site (change k (server.answers c id) t))
+    is_answered : (t : Server) (v : World) → Beside site t v → (t.connections k).work ≡ ToPublish c id key d
+        → Follows site.config v [] (Beside site (change k (server.answers c id) t))
     is_answered t v bv i =
         connection-step site t v bv site.config k (server.answers c id) refl
         (λ x at l. turns.idle site t v bv x (t.clients x) (server.answers c id (t.connections k))

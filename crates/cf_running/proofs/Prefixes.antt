@@ -1,5 +1,7 @@
 -- What is on its way to a client that waits for an answer, after each prefix of a list of sections.
-use Rattle.std.proofs.Common.{◌≡◌, ◌≢◌, inl, inr, ◌<◌, ◌≤◌, ℕ, zero, suc, ◌+◌, ◌==◌, nat_lt, nat_le, ◌&&◌, Bool, true, false, if◌then◌else◌, is_some, Option, Some, None, List, [], ◌∷◌, ◌++◌, length, slice_get, take, refl, sym, ap, subst, ◌∙◌, arith}
+use Rattle.std.proofs.Common.{◌≡◌, ◌≢◌, inl, inr, ◌<◌, ◌≤◌, ℕ, zero, suc, ◌+◌, ◌==◌, nat_lt, nat_le, ◌&&◌, Bool, true}
+use Rattle.std.proofs.Common.{false, if◌then◌else◌, is_some, Option, Some, None, List, [], ◌∷◌, ◌++◌, length, slice_get}
+use Rattle.std.proofs.Common.{take, refl, sym, ap, subst, ◌∙◌, arith}
 use Rattle.std.proofs.Math.Nat.{le_refl}
 use Rattle.cf_protocol.specs.Names.{with}
 use Rattle.cf_protocol.specs.Position.{Position}
@@ -16,15 +18,22 @@ use Rattle.cf_machine.specs.World.{World}
 use Rattle.cf_machine.proofs.Names.{text_tells, by_test, with-same, with-other}
 use Rattle.std.specs.Str.{bytes_eq}
 use Rattle.cf_running.specs.Server as server
-use Rattle.cf_running.specs.Server.{Server, Site, Connection, Work, Free, Began, HasRead, ToFinish, ToGiveUp, ToPublish, ToList, ToSay, ClientCommand, Section, at_number, change, nowhere, life_of, request_by, may_send, server_after, AsksShard, Attaches, Sends, Receives, Breaks, Gains, Sizes, Publishes, Offers, LooksUp, IsRefused, Begins, Leaves, Calls, Refuses, ReadDone, Finishes, FinishesOver, FinishesAmid, GivesUp, Drops, Says, Errs, Takes, Detaches, Delivers, Checks, Pings, Closes, Wanders, Strays}
+use Rattle.cf_running.specs.Server.{Server, Site, Connection, Work, Free, Began, HasRead, ToFinish, ToGiveUp, ToPublish}
+use Rattle.cf_running.specs.Server.{ToList, ToSay, ClientCommand, Section, at_number, change, nowhere, life_of}
+use Rattle.cf_running.specs.Server.{request_by, may_send, server_after, AsksShard, Attaches, Sends, Receives, Breaks}
+use Rattle.cf_running.specs.Server.{Gains, Sizes, Publishes, Offers, LooksUp, IsRefused, Begins, Leaves, Calls, Refuses}
+use Rattle.cf_running.specs.Server.{ReadDone, Finishes, FinishesOver, FinishesAmid, GivesUp, Drops, Says, Errs, Takes}
+use Rattle.cf_running.specs.Server.{Detaches, Delivers, Checks, Pings, Closes, Wanders, Strays}
 use Rattle.cf_running.specs.WasRead.{after_first, mode_after, IsOut}
 use Rattle.cf_running.proofs.Answering.{Asks, Answered, Answers, RequestIs, NotesAre, more, ups-append, AreRightFor}
-use Rattle.cf_running.proofs.Asking.{SinceFits, ReplyFits, IsNoAsk, GoesTo, since-to, reply-to, takes-to, up_to, prefix-next, its_section, IsAside, stays, changed, keeps}
+use Rattle.cf_running.proofs.Asking.{SinceFits, ReplyFits, IsNoAsk, GoesTo, since-to, reply-to, takes-to, up_to}
+use Rattle.cf_running.proofs.Asking.{prefix-next, its_section, IsAside, stays, changed, keeps}
 use Rattle.cf_running.proofs.Beside.{IsRight, IsAskedFrom, Linked, BesideClient, Beside, number_tells}
 use Rattle.cf_running.proofs.Steps.{stands_beside}
 
 -- the ask of this id was sent, and has been out since
-pub record SentAsk (site : Site) (sections : List Section) (x c : List ℕ) (asked id : ℕ) (since : Option Position) (n : ℕ) : Type 0 where
+pub record SentAsk (site : Site) (sections : List Section) (x c : List ℕ) (asked id : ℕ) (since : Option Position)
+    (n : ℕ) : Type 0 where
   pub command : ClientCommand
   pub sent : slice_get sections asked ≡ Some (Sends x command)
   pub request : request_by ((after_first site sections asked).clients x) command ≡ Subscribe c since
@@ -32,7 +41,8 @@ pub record SentAsk (site : Site) (sections : List Section) (x c : List ℕ) (ask
   pub out : (j : ℕ) → asked < j → j ≤ n → IsOut id since (mode_after site sections x c j)
 
 -- the reading was made for it
-pub record WasReadFor (site : Site) (sections : List Section) (x c : List ℕ) (asked n : ℕ) (since : Option Position) (r : Reading) : Type 0 where
+pub record WasReadFor (site : Site) (sections : List Section) (x c : List ℕ) (asked n : ℕ) (since : Option Position)
+    (r : Reading) : Type 0 where
   pub read : ℕ
   pub connection : ℕ
   pub life : Life
@@ -52,19 +62,29 @@ abbrev pub AsksOf : Client → List ℕ → ℕ → Option Position → Type 0
 AsksOf y c id since = (id < y.fresh) × SinceFits (y.modes c) id since
 
 abbrev pub AnsweredOf : Site → List Section → (x c : List ℕ) → (asked n : ℕ) → Client → ℕ → Bool → Reading → Type 0
-AnsweredOf site sections x c asked n y id was r = (id < y.fresh) × ReplyFits (WasReadFor site sections x c asked n) (y.modes c) id was r
+AnsweredOf site sections x c asked n y id was r =
+    (id < y.fresh) × ReplyFits (WasReadFor site sections x c asked n) (y.modes c) id was r
 
 -- THE INVARIANT, of client x and channel c after n sections
 pub record Waits (site : Site) (sections : List Section) (x c : List ℕ) (n : ℕ) (s : Server) : Type 0 where
   pub asked : ℕ
   pub mode : HasAsked site sections x c asked n ((s.clients x).modes c)
-  pub answers : (k : ℕ) → s.seats x ≡ Some k → Answers (AsksOf (s.clients x) c) (AnsweredOf site sections x c asked n (s.clients x)) c (s.connections k)
+  pub answers : (k : ℕ) → s.seats x ≡ Some k → Answers (AsksOf (s.clients x) c)
+      (AnsweredOf site sections x c asked n (s.clients x)) c (s.connections k)
 
 some_is : (j k : ℕ) → ◌≡◌ {A = Option ℕ} (Some j) (Some k) → j ≡ k
 some_is j k e = cc
 
-new-answers : (Q : Asks) (P : Answered) (c x : List ℕ) (n : ℕ) → Answers Q P c (record nowhere { client = x; node = n; attached = true })
-new-answers Q P c x n = record { up = tt; plain = record { sub = tt; notes = tt }; session = record { sub = tt; notes = tt }; hand = tt; way = tt }
+new-answers : (Q : Asks) (P : Answered) (c x : List ℕ) (n : ℕ)
+    → Answers Q P c (record nowhere { client = x; node = n; attached = true })
+new-answers Q P c x n =
+    record {
+      up = tt;
+      plain = record { sub = tt; notes = tt };
+      session = record { sub = tt; notes = tt };
+      hand = tt;
+      way = tt;
+    }
 
 module _ (site : Site) (sections : List Section) (x c : List ℕ) where
   abbrev S : ℕ → Server
@@ -73,7 +93,8 @@ module _ (site : Site) (sections : List Section) (x c : List ℕ) where
   abbrev P : ℕ → ℕ → Client → Answered
   P asked n y = AnsweredOf site sections x c asked n y
 
-  longer-read : (asked n : ℕ) (since : Option Position) (r : Reading) → WasReadFor site sections x c asked n since r → WasReadFor site sections x c asked (suc n) since r
+  longer-read : (asked n : ℕ) (since : Option Position) (r : Reading) → WasReadFor site sections x c asked n since r
+      → WasReadFor site sections x c asked (suc n) since r
   longer-read asked n since r h = record {
     read = h.read;
     connection = h.connection;
@@ -86,7 +107,8 @@ module _ (site : Site) (sections : List Section) (x c : List ℕ) where
     is = h.is;
   }
 
-  has-longer : (asked n : ℕ) (m : Mode) → mode_after site sections x c (suc n) ≡ m → HasAsked site sections x c asked n m → HasAsked site sections x c asked (suc n) m
+  has-longer : (asked n : ℕ) (m : Mode) → mode_after site sections x c (suc n) ≡ m
+      → HasAsked site sections x c asked n m → HasAsked site sections x c asked (suc n) m
   has-longer asked n (Idle last) e h = tt
   has-longer asked n (Live p) e h = tt
   has-longer asked n (Asking id from last) e h = record {
@@ -96,11 +118,13 @@ module _ (site : Site) (sections : List Section) (x c : List ℕ) where
     before = let i : asked < n = h.before in omega arith;
     out = λ j low high. elim (up_to j n high) [
       | inl i ↦ h.out j low i
-      | inr i ↦ subst (λ z. IsOut id from (mode_after site sections x c z)) (sym i) (subst (IsOut id from) (sym e) (refl, refl))
+      | inr i ↦ subst (λ z. IsOut id from (mode_after site sections x c z)) (sym i)
+          (subst (IsOut id from) (sym e) (refl, refl))
     ];
   }
 
-  has-to : (asked n : ℕ) (m t : Mode) → GoesTo m t → mode_after site sections x c (suc n) ≡ t → HasAsked site sections x c asked n m → HasAsked site sections x c asked (suc n) t
+  has-to : (asked n : ℕ) (m t : Mode) → GoesTo m t → mode_after site sections x c (suc n) ≡ t
+      → HasAsked site sections x c asked n m → HasAsked site sections x c asked (suc n) t
   has-to asked n m (Idle last) g e h = tt
   has-to asked n m (Live p) g e h = tt
   has-to asked n m (Asking id from last) g e h = elim g [
@@ -109,7 +133,8 @@ module _ (site : Site) (sections : List Section) (x c : List ℕ) where
   ]
 
   -- the ask that is out is right for a reading that is made now
-  right-now : (asked n : ℕ) (m : Mode) (k : ℕ) (l : Life) (since : Option Position) → slice_get sections n ≡ Some (AsksShard k) → (S n).seats x ≡ Some k → life_of site (S n) c ≡ Some l
+  right-now : (asked n : ℕ) (m : Mode) (k : ℕ) (l : Life) (since : Option Position)
+      → slice_get sections n ≡ Some (AsksShard k) → (S n).seats x ≡ Some k → life_of site (S n) c ≡ Some l
       → HasAsked site sections x c asked n m → (i : ℕ) (y : Option Position) → y ≡ since → SinceFits m i y
       → ReplyFits (WasReadFor site sections x c asked (suc n)) m i (is_some y) (read_of since (state_of l))
   right-now asked n (Idle last) k l since e at stood h i y f q = tt
@@ -129,11 +154,16 @@ module _ (site : Site) (sections : List Section) (x c : List ℕ) where
     },
   )
 
-  right-for : (asked n k : ℕ) (y : Client) (v : Session) (w : Work) → slice_get sections n ≡ Some (AsksShard k) → (S n).seats x ≡ Some k
-      → HasAsked site sections x c asked n (y.modes c) → IsRight w v → AreRightFor (AsksOf y c) (P asked (suc n) y) c site (S n) v w
+  right-for : (asked n k : ℕ) (y : Client) (v : Session) (w : Work) → slice_get sections n ≡ Some (AsksShard k)
+      → (S n).seats x ≡ Some k
+      → HasAsked site sections x c asked n (y.modes c) → IsRight w v
+      → AreRightFor (AsksOf y c) (P asked (suc n) y) c site (S n) v w
   right-for asked n k y v (Began d id since) e at h r = λ l stood f i z b sub q.
-      let from : z ≡ since = subst (IsAskedFrom since) sub r in
-      (q.0, right-now asked n (y.modes c) k l since e at (subst (λ a. life_of site (S n) a ≡ Some l) f stood) h i z from q.1)
+      let from : z ≡ since = subst (IsAskedFrom since) sub r in (
+        q.0,
+        right-now asked n (y.modes c) k l since e at (subst (λ a. life_of site (S n) a ≡ Some l) f stood) h i z from
+            q.1,
+      )
   right-for asked n k y v Free e at h r = tt
   right-for asked n k y v (HasRead d i) e at h r = tt
   right-for asked n k y v (ToFinish d) e at h r = tt
@@ -149,30 +179,42 @@ module _ (site : Site) (sections : List Section) (x c : List ℕ) where
     abbrev A : Connection → Type 0
     A k = Answers (AsksOf me c) (P h.asked (suc n) me) c k
 
-    its-link : (w : World) → Beside site (S n) w → (k : ℕ) → (S n).seats x ≡ Some k → Linked ((S n).connections k) me (w.links x)
+    its-link : (w : World) → Beside site (S n) w → (k : ℕ) → (S n).seats x ≡ Some k
+        → Linked ((S n).connections k) me (w.links x)
     its-link w b k at = subst (λ o. BesideClient (S n).connections me o (w.links x)) at (b.clients x)
 
     -- as it was, one section later
     as_it_was : (k : ℕ) → (S n).seats x ≡ Some k → A ((S n).connections k)
     as_it_was k at =
         more (AsksOf me c) (P h.asked n me) (AsksOf me c) (P h.asked (suc n) me) c (λ id since q. q)
-        (λ id was r p. (p.0, reply-to (WasReadFor site sections x c h.asked n) (WasReadFor site sections x c h.asked (suc n)) (longer-read h.asked n) (me.modes c) (me.modes c) id was r (inl refl) p.1))
+        (λ id was r p. (
+          p.0,
+          reply-to (WasReadFor site sections x c h.asked n)
+              (WasReadFor site sections x c h.asked (suc n)) (longer-read h.asked n) (me.modes c) (me.modes c) id was r
+              (inl refl) p.1,
+        ))
         ((S n).connections k) (h.answers k at)
 
     -- what the client knows goes on, and its connection with it
     goes : (v : Server) → S (suc n) ≡ v → GoesTo (me.modes c) ((v.clients x).modes c)
-        → ((k : ℕ) → v.seats x ≡ Some k → (me.fresh ≤ (v.clients x).fresh) × A (v.connections k)) → Waits site sections x c (suc n) v
+        → ((k : ℕ) → v.seats x ≡ Some k → (me.fresh ≤ (v.clients x).fresh) × A (v.connections k))
+        → Waits site sections x c (suc n) v
     goes v e g a = record {
       asked = h.asked;
-      mode = has-to h.asked n (me.modes c) ((v.clients x).modes c) g (ap (λ (z : Server). (z.clients x).modes c) e) h.mode;
+      mode = has-to h.asked n (me.modes c) ((v.clients x).modes c) g (ap (λ (z : Server). (z.clients x).modes c) e)
+          h.mode;
       answers = λ k at.
           let p = a k at in
           let le : me.fresh ≤ (v.clients x).fresh = p.0 in
           more (AsksOf me c) (P h.asked (suc n) me) (AsksOf (v.clients x) c) (P h.asked (suc n) (v.clients x)) c
-          (λ id since q. (let i : id < me.fresh = q.0 in omega arith, since-to (me.modes c) ((v.clients x).modes c) id since g q.1))
+          (λ id since q. (
+            let i : id < me.fresh = q.0 in omega arith,
+            since-to (me.modes c) ((v.clients x).modes c) id since g q.1,
+          ))
           (λ id was r q. (
             let i : id < me.fresh = q.0 in omega arith,
-            reply-to (WasReadFor site sections x c h.asked (suc n)) (WasReadFor site sections x c h.asked (suc n)) (λ from y z. z) (me.modes c) ((v.clients x).modes c) id was r g q.1,
+            reply-to (WasReadFor site sections x c h.asked (suc n)) (WasReadFor site sections x c h.asked (suc n))
+                (λ from y z. z) (me.modes c) ((v.clients x).modes c) id was r g q.1,
           ))
           (v.connections k) p.1;
     }
@@ -181,7 +223,8 @@ module _ (site : Site) (sections : List Section) (x c : List ℕ) where
     unchanged e = goes (S n) e (inl refl) (λ k at. (le_refl _, as_it_was k at))
 
     -- a section that leaves clients aside
-    aside-step : (y : Section) → IsAside y → slice_get sections n ≡ Some y → S (suc n) ≡ server_after site y (S n) → (w : World) → Beside site (S n) w
+    aside-step : (y : Section) → IsAside y → slice_get sections n ≡ Some y → S (suc n) ≡ server_after site y (S n)
+        → (w : World) → Beside site (S n) w
         → Waits site sections x c (suc n) (server_after site y (S n))
     aside-step y side e next w b =
         let v : Server = server_after site y (S n) in
@@ -193,7 +236,8 @@ module _ (site : Site) (sections : List Section) (x c : List ℕ) where
           subst (λ (f : List ℕ → Client). me.fresh ≤ (f x).fresh) (sym st.0) (le_refl _),
           keeps site (S n) (AsksOf me c) (P h.asked (suc n) me) c k y side
               (ap (λ z. server.is_seat k ((S n).seats z)) own ∙ ap (server.is_seat k) was ∙ itself k)
-              (λ is. right-for h.asked n k me ((S n).connections k).session ((S n).connections k).work (e ∙ ap Some is) was h.mode (its-link w b k was).right)
+              (λ is. right-for h.asked n k me ((S n).connections k).session ((S n).connections k).work (e ∙ ap Some is)
+              was h.mode (its-link w b k was).right)
               (as_it_was k was),
         ))
       where
@@ -210,43 +254,59 @@ module _ (site : Site) (sections : List Section) (x c : List ℕ) where
     parts-step y connections a next =
         goes (server.parts y (record (S n) { connections = connections })) next
         (elim (text_tells x y) [
-          | inl e ↦ inr (subst (λ (z : Client). IsNoAsk (z.modes c)) (sym (ap (λ (t : Bool). if t then reconnects ((S n).clients y) else me) e.0)) tt)
+          | inl e ↦ inr (subst (λ (z : Client). IsNoAsk (z.modes c))
+              (sym (ap (λ (t : Bool). if t then reconnects ((S n).clients y) else me) e.0)) tt)
           | inr e ↦ inl (ap (λ (t : Bool). (if t then reconnects ((S n).clients y) else me).modes c) e.0)
         ])
         (λ k at. elim (text_tells x y) [
-          | inl e ↦ absurd (let f : None ≡ Some k = sym (ap (λ (t : Bool). if t then None else (S n).seats x) e.0) ∙ at in cc)
+          | inl e ↦ absurd (let f : None ≡ Some k = sym (ap (λ (t : Bool). if t then None else (S n).seats x) e.0)
+              ∙ at in cc)
           | inr e ↦ (
-            subst (λ (z : Client). me.fresh ≤ z.fresh) (sym (ap (λ (t : Bool). if t then reconnects ((S n).clients y) else me) e.0)) (le_refl _),
+            subst (λ (z : Client). me.fresh ≤ z.fresh) (sym
+                (ap (λ (t : Bool). if t then reconnects ((S n).clients y) else me) e.0)) (le_refl _),
             a k (sym (ap (λ (t : Bool). if t then None else (S n).seats x) e.0) ∙ at),
           )
         ])
 
-    breaks-step : (y : List ℕ) (o : Option ℕ) → S (suc n) ≡ server.parts_from y o (S n) → Waits site sections x c (suc n) (server.parts_from y o (S n))
+    breaks-step : (y : List ℕ) (o : Option ℕ) → S (suc n) ≡ server.parts_from y o (S n)
+        → Waits site sections x c (suc n) (server.parts_from y o (S n))
     breaks-step y None next = unchanged next
     breaks-step y (Some k) next = parts-step y (S n).connections (λ j at. as_it_was j at) next
 
     -- a note reaches it, or another
-    hears-step : (y : List ℕ) (note : Note) (connections : ℕ → Connection) → ((k : ℕ) → (S n).seats x ≡ Some k → A (connections k))
-        → S (suc n) ≡ record (S n) { connections = connections; clients = with (S n).clients y (hears note ((S n).clients y)) }
-        → Waits site sections x c (suc n) (record (S n) { connections = connections; clients = with (S n).clients y (hears note ((S n).clients y)) })
+    hears-step : (y : List ℕ) (note : Note) (connections : ℕ → Connection)
+        → ((k : ℕ) → (S n).seats x ≡ Some k → A (connections k))
+        → S (suc n) ≡ record (S n) {
+          connections = connections;
+          clients = with (S n).clients y (hears note ((S n).clients y));
+        }
+        → Waits site sections x c (suc n) (record (S n)
+        { connections = connections; clients = with (S n).clients y (hears note ((S n).clients y)) })
     hears-step y note connections a next =
-        goes (record (S n) { connections = connections; clients = with (S n).clients y (hears note ((S n).clients y)) }) next
+        goes (record (S n) { connections = connections; clients = with (S n).clients y (hears note ((S n).clients y)) })
+        next
         (elim (text_tells x y) [
-          | inl e ↦ subst (λ (z : Client). GoesTo (me.modes c) (z.modes c)) (sym (ap (λ (t : Bool). if t then hears note ((S n).clients y) else me) e.0))
-              (subst (λ z. GoesTo (me.modes c) ((hears note ((S n).clients z)).modes c)) e.1 (takes-to c (me.modes c) note))
+          | inl e ↦ subst (λ (z : Client). GoesTo (me.modes c) (z.modes c))
+              (sym (ap (λ (t : Bool). if t then hears note ((S n).clients y) else me) e.0))
+              (subst (λ z. GoesTo (me.modes c) ((hears note ((S n).clients z)).modes c)) e.1
+              (takes-to c (me.modes c) note))
           | inr e ↦ inl (ap (λ (t : Bool). (if t then hears note ((S n).clients y) else me).modes c) e.0)
         ])
         (λ k at. (
           elim (text_tells x y) [
-            | inl e ↦ subst (λ (z : Client). me.fresh ≤ z.fresh) (sym (ap (λ (t : Bool). if t then hears note ((S n).clients y) else me) e.0))
+            | inl e ↦ subst (λ (z : Client). me.fresh ≤ z.fresh)
+                (sym (ap (λ (t : Bool). if t then hears note ((S n).clients y) else me) e.0))
                 (subst (λ z. me.fresh ≤ ((S n).clients z).fresh) e.1 (le_refl _))
-            | inr e ↦ subst (λ (z : Client). me.fresh ≤ z.fresh) (sym (ap (λ (t : Bool). if t then hears note ((S n).clients y) else me) e.0)) (le_refl _)
+            | inr e ↦ subst (λ (z : Client). me.fresh ≤ z.fresh)
+                (sym (ap (λ (t : Bool). if t then hears note ((S n).clients y) else me) e.0)) (le_refl _)
           ],
           a k at,
         ))
 
-    gets-step : (y : List ℕ) (note : Note) (connections : ℕ → Connection) → ((k : ℕ) → (S n).seats x ≡ Some k → A (connections k))
-        → S (suc n) ≡ server.gets y note (record (S n) { connections = connections }) → Waits site sections x c (suc n) (server.gets y note (record (S n) { connections = connections }))
+    gets-step : (y : List ℕ) (note : Note) (connections : ℕ → Connection)
+        → ((k : ℕ) → (S n).seats x ≡ Some k → A (connections k))
+        → S (suc n) ≡ server.gets y note (record (S n) { connections = connections })
+        → Waits site sections x c (suc n) (server.gets y note (record (S n) { connections = connections }))
     gets-step y (Close code) connections a next = parts-step y connections a next
     gets-step y (Reply d id was r) connections a next = hears-step y (Reply d id was r) connections a next
     gets-step y (Pub d q) connections a next = hears-step y (Pub d q) connections a next
@@ -262,19 +322,24 @@ module _ (site : Site) (sections : List Section) (x c : List ℕ) where
         let w = subst (NotesAre (P h.asked (suc n) me) c) e a.way in
         record { up = a.up; plain = a.plain; session = a.session; hand = a.hand; way = w.1 }
 
-    receives-first : (y : List ℕ) (k : ℕ) (ns : List Note) → ((S n).connections k).way ≡ ns → S (suc n) ≡ server.receives_first y k ns (S n)
+    receives-first : (y : List ℕ) (k : ℕ) (ns : List Note) → ((S n).connections k).way ≡ ns
+        → S (suc n) ≡ server.receives_first y k ns (S n)
         → Waits site sections x c (suc n) (server.receives_first y k ns (S n))
     receives-first y k [] e next = unchanged next
     receives-first y k (note ∷ ns) e next =
         gets-step y note (at_number (S n).connections k (record ((S n).connections k) { way = ns }))
-        (λ j at. changed site (S n) (AsksOf me c) (P h.asked (suc n) me) c j k (λ (z : Connection). record z { way = ns }) (λ f a. tail note ns ((S n).connections k) e a) (as_it_was j at)) next
+        (λ j at. changed site (S n) (AsksOf me c) (P h.asked (suc n) me) c j k
+        (λ (z : Connection). record z { way = ns }) (λ f a. tail note ns ((S n).connections k) e a)
+        (as_it_was j at)) next
 
-    receives-step : (y : List ℕ) (o : Option ℕ) → S (suc n) ≡ server.receives_by y o (S n) → Waits site sections x c (suc n) (server.receives_by y o (S n))
+    receives-step : (y : List ℕ) (o : Option ℕ) → S (suc n) ≡ server.receives_by y o (S n)
+        → Waits site sections x c (suc n) (server.receives_by y o (S n))
     receives-step y None next = unchanged next
     receives-step y (Some k) next = receives-first y k ((S n).connections k).way refl next
 
     -- it comes to a node, or another
-    attaches-step : (y : List ℕ) (node : ℕ) (o : Option ℕ) → S (suc n) ≡ server.comes_to site y node o (S n) → Waits site sections x c (suc n) (server.comes_to site y node o (S n))
+    attaches-step : (y : List ℕ) (node : ℕ) (o : Option ℕ) → S (suc n) ≡ server.comes_to site y node o (S n)
+        → Waits site sections x c (suc n) (server.comes_to site y node o (S n))
     attaches-step y node (Some k) next = unchanged next
     attaches-step y node None next = by_room (nat_lt node site.config.nodes) next
       where
@@ -289,37 +354,46 @@ module _ (site : Site) (sections : List Section) (x c : List ℕ) where
         }
 
         others : (j : ℕ) → A ((S n).connections j) → A (at_number (S n).connections (S n).count new j)
-        others j a = by_test A (j == (S n).count) _ _ (λ e. new-answers (AsksOf me c) (P h.asked (suc n) me) c y node) (λ e. a)
+        others j a =
+            by_test A (j == (S n).count) _ _ (λ e. new-answers (AsksOf me c) (P h.asked (suc n) me) c y node) (λ e. a)
 
         own : A (at_number (S n).connections (S n).count new (S n).count)
         own = elim (number_tells (S n).count (S n).count) [
-          | inl i ↦ subst A (sym (ap (λ (t : Bool). if t then new else (S n).connections (S n).count) i.0)) (new-answers (AsksOf me c) (P h.asked (suc n) me) c y node)
+          | inl i ↦ subst A (sym (ap (λ (t : Bool). if t then new else (S n).connections (S n).count) i.0))
+              (new-answers (AsksOf me c) (P h.asked (suc n) me) c y node)
           | inr i ↦ absurd (i.1 refl)
         ]
 
-        by_room : (t : Bool) → S (suc n) ≡ (if t then joined else S n) → Waits site sections x c (suc n) (if t then joined else S n)
+        by_room : (t : Bool) → S (suc n) ≡ (if t then joined else S n)
+            → Waits site sections x c (suc n) (if t then joined else S n)
         by_room false e = unchanged e
         by_room true e = goes joined e (inl refl) (λ k at. (
           le_refl _,
           elim (text_tells x y) [
             | inl f ↦
-                let is : (S n).count ≡ k = some_is (S n).count k (sym (ap (λ (t : Bool). if t then Some (S n).count else (S n).seats x) f.0) ∙ at) in
+                let is : (S n).count ≡ k =
+                some_is (S n).count k (sym (ap (λ (t : Bool). if t then Some (S n).count else (S n).seats x) f.0)
+                ∙ at) in
                 subst (λ z. A (at_number (S n).connections (S n).count new z)) is own
-            | inr f ↦ others k (as_it_was k (sym (ap (λ (t : Bool). if t then Some (S n).count else (S n).seats x) f.0) ∙ at))
+            | inr f ↦ others k (as_it_was k (sym (ap (λ (t : Bool). if t then Some (S n).count else (S n).seats x) f.0)
+                ∙ at))
           ],
         ))
 
     -- ---- it sends, or another does
 
     abbrev said : (y : List ℕ) → ℕ → ClientRequest → Server
-    said y k r = record (change k (λ (l : Connection). record l { up = l.up ++ record { id = ((S n).clients y).fresh; request = r } ∷ [] }) (S n)) {
-      clients = with (S n).clients y (client_sends r ((S n).clients y));
-    }
+    said y k r =
+        record (change k (λ (l : Connection). record l
+        { up = l.up ++ record { id = ((S n).clients y).fresh; request = r } ∷ [] }) (S n)) {
+          clients = with (S n).clients y (client_sends r ((S n).clients y));
+        }
 
     abbrev more_up : Client → ClientRequest → Connection → Connection
     more_up y r k = record k { up = k.up ++ record { id = y.fresh; request = r } ∷ [] }
 
-    said-up : (Q : Asks) (R : Answered) (y : Client) (r : ClientRequest) (k : Connection) → RequestIs Q c y.fresh r → Answers Q R c k → Answers Q R c (more_up y r k)
+    said-up : (Q : Asks) (R : Answered) (y : Client) (r : ClientRequest) (k : Connection) → RequestIs Q c y.fresh r
+        → Answers Q R c k → Answers Q R c (more_up y r k)
     said-up Q R y r k q a = record {
       up = ups-append Q R c k.up (record { id = y.fresh; request = r } ∷ []) a.up (q, tt);
       plain = a.plain;
@@ -328,26 +402,32 @@ module _ (site : Site) (sections : List Section) (x c : List ℕ) where
       way = a.way;
     }
 
-    own-goes : (k : ℕ) (r : ClientRequest) (t : Client) → client_sends r me ≡ t → GoesTo (me.modes c) (t.modes c) → me.fresh ≤ t.fresh → RequestIs (AsksOf me c) c me.fresh r
+    own-goes : (k : ℕ) (r : ClientRequest) (t : Client) → client_sends r me ≡ t → GoesTo (me.modes c) (t.modes c)
+        → me.fresh ≤ t.fresh → RequestIs (AsksOf me c) c me.fresh r
         → S (suc n) ≡ said x k r → Waits site sections x c (suc n) (said x k r)
     own-goes k r t e g le q next =
         let is : with (S n).clients x (client_sends r me) x ≡ t = with-same (S n).clients x (client_sends r me) ∙ e in
         goes (said x k r) next (subst (λ (z : Client). GoesTo (me.modes c) (z.modes c)) (sym is) g)
         (λ j at. (
           subst (λ (z : Client). me.fresh ≤ z.fresh) (sym is) le,
-          changed site (S n) (AsksOf me c) (P h.asked (suc n) me) c j k (more_up me r) (λ f a. said-up (AsksOf me c) (P h.asked (suc n) me) me r ((S n).connections k) q a) (as_it_was j at),
+          changed site (S n) (AsksOf me c) (P h.asked (suc n) me) c j k (more_up me r)
+              (λ f a. said-up (AsksOf me c) (P h.asked (suc n) me) me r ((S n).connections k) q a) (as_it_was j at),
         ))
 
     -- the client's own ask of this channel
-    own-ask : (k : ℕ) (e : ClientCommand) (from : Option Position) → slice_get sections n ≡ Some (Sends x e) → request_by me e ≡ Subscribe c from
+    own-ask : (k : ℕ) (e : ClientCommand) (from : Option Position) → slice_get sections n ≡ Some (Sends x e)
+        → request_by me e ≡ Subscribe c from
         → S (suc n) ≡ said x k (Subscribe c from) → Waits site sections x c (suc n) (said x k (Subscribe c from))
     own-ask k e from is r next =
         let t : Client = client_sends (Subscribe c from) me in
         let v : Server = said x k (Subscribe c from) in
         let mine : v.clients x ≡ t = with-same (S n).clients x t in
-        let m : t.modes c ≡ Asking me.fresh from (last_of (me.modes c)) = with-same me.modes c (Asking me.fresh from (last_of (me.modes c))) in
-        let mode : (v.clients x).modes c ≡ Asking me.fresh from (last_of (me.modes c)) = ap (λ (z : Client). z.modes c) mine ∙ m in
-        let out : IsOut me.fresh from (mode_after site sections x c (suc n)) = subst (IsOut me.fresh from) (sym (ap (λ (z : Server). (z.clients x).modes c) next ∙ mode)) (refl, refl) in
+        let m : t.modes c ≡ Asking me.fresh from (last_of (me.modes c)) =
+        with-same me.modes c (Asking me.fresh from (last_of (me.modes c))) in
+        let mode : (v.clients x).modes c ≡ Asking me.fresh from (last_of (me.modes c)) =
+        ap (λ (z : Client). z.modes c) mine ∙ m in
+        let out : IsOut me.fresh from (mode_after site sections x c (suc n)) =
+        subst (IsOut me.fresh from) (sym (ap (λ (z : Server). (z.clients x).modes c) next ∙ mode)) (refl, refl) in
         record {
           asked = n;
           mode = subst (HasAsked site sections x c n (suc n)) (sym mode) (record {
@@ -366,70 +446,88 @@ module _ (site : Site) (sections : List Section) (x c : List ℕ) where
               (λ f a. said-up (AsksOf t c) (P n (suc n) t) me (Subscribe c from) ((S n).connections k)
               (λ g. (omega arith, subst (λ z. SinceFits z me.fresh from) (sym m) (λ same. refl))) a)
               (more (AsksOf me c) (P h.asked n me) (AsksOf t c) (P n (suc n) t) c
-              (λ id since q. let i : id < me.fresh = q.0 in (omega arith, subst (λ z. SinceFits z id since) (sym m) (λ same. absurd (omega (arith, i, same)))))
+              (λ id since q. let i : id < me.fresh = q.0 in (
+                omega arith,
+                subst (λ z. SinceFits z id since) (sym m) (λ same. absurd (omega (arith, i, same))),
+              ))
               (λ id was r q. let i : id < me.fresh = q.0 in (
                 omega arith,
-                subst (λ z. ReplyFits (WasReadFor site sections x c n (suc n)) z id was r) (sym m) (λ same. absurd (omega (arith, i, same))),
+                subst (λ z. ReplyFits (WasReadFor site sections x c n (suc n)) z id was r) (sym m)
+                    (λ same. absurd (omega (arith, i, same))),
               ))
               ((S n).connections j) (h.answers j at)));
         }
 
-    own-sends : (k : ℕ) (e : ClientCommand) (r : ClientRequest) → slice_get sections n ≡ Some (Sends x e) → request_by me e ≡ r
+    own-sends : (k : ℕ) (e : ClientCommand) (r : ClientRequest) → slice_get sections n ≡ Some (Sends x e)
+        → request_by me e ≡ r
         → S (suc n) ≡ said x k r → Waits site sections x c (suc n) (said x k r)
     own-sends k e (Subscribe d from) is q next = elim (text_tells d c) [
       | inl i ↦
-          subst (λ z. request_by me e ≡ Subscribe z from → S (suc n) ≡ said x k (Subscribe z from) → Waits site sections x c (suc n) (said x k (Subscribe z from))) (sym i.1)
+          subst (λ z. request_by me e ≡ Subscribe z from → S (suc n) ≡ said x k (Subscribe z from)
+          → Waits site sections x c (suc n) (said x k (Subscribe z from))) (sym i.1)
           (own-ask k e from is) q next
       | inr i ↦
           own-goes k (Subscribe d from) (client_sends (Subscribe d from) me) refl
-          (inl (with-other me.modes d (Asking me.fresh from (last_of (me.modes d))) c (λ f. i.1 (sym f)))) (omega arith) (λ f. absurd (i.1 f)) next
+          (inl (with-other me.modes d (Asking me.fresh from (last_of (me.modes d))) c (λ f. i.1 (sym f)))) (omega arith)
+          (λ f. absurd (i.1 f)) next
     ]
     own-sends k e (Unsubscribe d) is q next =
         own-goes k (Unsubscribe d) (client_sends (Unsubscribe d) me) refl
         (by_test (λ z. GoesTo (me.modes c) z) (bytes_eq c d) _ _ (λ i. inr tt) (λ i. inl refl)) (omega arith) tt next
     own-sends k e (PublishRequest d key body) is q next =
-        own-goes k (PublishRequest d key body) (client_sends (PublishRequest d key body) me) refl (inl refl) (omega arith) tt next
-    own-sends k e (History d limit) is q next = own-goes k (History d limit) (client_sends (History d limit) me) refl (inl refl) (omega arith) tt next
+        own-goes k (PublishRequest d key body) (client_sends (PublishRequest d key body) me) refl (inl refl)
+        (omega arith) tt next
+    own-sends k e (History d limit) is q next =
+        own-goes k (History d limit) (client_sends (History d limit) me) refl (inl refl) (omega arith) tt next
 
-    by_can : (t : Bool) (v : Server) → (S (suc n) ≡ v → Waits site sections x c (suc n) v) → S (suc n) ≡ (if t then v else S n) → Waits site sections x c (suc n) (if t then v else S n)
+    by_can : (t : Bool) (v : Server) → (S (suc n) ≡ v → Waits site sections x c (suc n) v)
+        → S (suc n) ≡ (if t then v else S n) → Waits site sections x c (suc n) (if t then v else S n)
     by_can true v f e = f e
     by_can false v f e = unchanged e
 
-    own-step : (e : ClientCommand) (o : Option ℕ) → slice_get sections n ≡ Some (Sends x e) → S (suc n) ≡ server.sends_by x e o (S n)
+    own-step : (e : ClientCommand) (o : Option ℕ) → slice_get sections n ≡ Some (Sends x e)
+        → S (suc n) ≡ server.sends_by x e o (S n)
         → Waits site sections x c (suc n) (server.sends_by x e o (S n))
     own-step e None is next = unchanged next
     own-step e (Some k) is next =
-        by_can (nat_le me.fresh last_id && may_send me e) (said x k (request_by me e)) (λ f. own-sends k e (request_by me e) is refl f) next
+        by_can (nat_le me.fresh last_id && may_send me e) (said x k (request_by me e))
+        (λ f. own-sends k e (request_by me e) is refl f) next
 
-    other-step : (y : List ℕ) (e : ClientCommand) (o : Option ℕ) → x ≢ y → (S n).seats y ≡ o → S (suc n) ≡ server.sends_by y e o (S n) → (w : World) → Beside site (S n) w
+    other-step : (y : List ℕ) (e : ClientCommand) (o : Option ℕ) → x ≢ y → (S n).seats y ≡ o
+        → S (suc n) ≡ server.sends_by y e o (S n) → (w : World) → Beside site (S n) w
         → Waits site sections x c (suc n) (server.sends_by y e o (S n))
     other-step y e None ne at next w b = unchanged next
     other-step y e (Some k) ne at next w b =
         by_can (nat_le ((S n).clients y).fresh last_id && may_send ((S n).clients y) e) (said y k r)
         (λ f.
-        let same : with (S n).clients y (client_sends r ((S n).clients y)) x ≡ me = with-other (S n).clients y (client_sends r ((S n).clients y)) x ne in
+        let same : with (S n).clients y (client_sends r ((S n).clients y)) x ≡ me =
+        with-other (S n).clients y (client_sends r ((S n).clients y)) x ne in
         goes (said y k r) f (inl (ap (λ (z : Client). z.modes c) same))
         (λ j own. (
           subst (λ (z : Client). me.fresh ≤ z.fresh) (sym same) (le_refl _),
           changed site (S n) (AsksOf me c) (P h.asked (suc n) me) c j k (more_up ((S n).clients y) r)
-              (λ i a. absurd (ne (sym (b.owns x j own).0 ∙ ap (λ z. ((S n).connections z).client) (sym i) ∙ (b.owns y k at).0))) (as_it_was j own),
+              (λ i a. absurd (ne (sym (b.owns x j own).0 ∙ ap (λ z. ((S n).connections z).client) (sym i)
+              ∙ (b.owns y k at).0))) (as_it_was j own),
         ))) next
       where
         r : ClientRequest
         r = request_by ((S n).clients y) e
 
-    sends-step : (y : List ℕ) (e : ClientCommand) → slice_get sections n ≡ Some (Sends y e) → S (suc n) ≡ server.sends_by y e ((S n).seats y) (S n) → (w : World) → Beside site (S n) w
+    sends-step : (y : List ℕ) (e : ClientCommand) → slice_get sections n ≡ Some (Sends y e)
+        → S (suc n) ≡ server.sends_by y e ((S n).seats y) (S n) → (w : World) → Beside site (S n) w
         → Waits site sections x c (suc n) (server.sends_by y e ((S n).seats y) (S n))
     sends-step y e is next w b = elim (text_tells x y) [
       | inl i ↦
-          subst (λ z. slice_get sections n ≡ Some (Sends z e) → S (suc n) ≡ server.sends_by z e ((S n).seats z) (S n) → Waits site sections x c (suc n) (server.sends_by z e ((S n).seats z) (S n))) i.1
+          subst (λ z. slice_get sections n ≡ Some (Sends z e) → S (suc n) ≡ server.sends_by z e ((S n).seats z) (S n)
+          → Waits site sections x c (suc n) (server.sends_by z e ((S n).seats z) (S n))) i.1
           (own-step e ((S n).seats x)) is next
       | inr i ↦ other-step y e ((S n).seats y) i.1 refl next w b
     ]
 
     -- ---- each section
 
-    step : (y : Section) → slice_get sections n ≡ Some y → S (suc n) ≡ server_after site y (S n) → (w : World) → Beside site (S n) w → Waits site sections x c (suc n) (server_after site y (S n))
+    step : (y : Section) → slice_get sections n ≡ Some y → S (suc n) ≡ server_after site y (S n) → (w : World)
+        → Beside site (S n) w → Waits site sections x c (suc n) (server_after site y (S n))
     step (Sends y e) is next w b = sends-step y e is next w b
     step (Receives y) is next w b = receives-step y ((S n).seats y) next
     step (Breaks y) is next w b = breaks-step y ((S n).seats y) next

@@ -507,7 +507,8 @@ server_after site (Refuses k code) s = change k (hears_by (λ c. refuses_by code
 server_after site (ReadDone k) s = change k (read_done (words_of site s) (s.connections k).work) s
 server_after site (Finishes k) s = change k (finishes_by (finishes (words_of site s)) (s.connections k).work) s
 server_after site (FinishesOver k) s = change k (finishes_by (finishes_over (words_of site s)) (s.connections k).work) s
-server_after site (FinishesAmid k count code) s = change k (breaks_off (words_of site s) count code (s.connections k).work) s
+server_after site (FinishesAmid k count code) s =
+    change k (breaks_off (words_of site s) count code (s.connections k).work) s
 server_after site (GivesUp k) s = change k (gives_up (s.connections k).work) s
 server_after site (Drops k) s = change k drops s
 server_after site (Says k) s = change k (says (words_of site s) (s.connections k).work) s

@@ -1,5 +1,6 @@
 -- A log that was gained entry by entry has no stream above the last offset.
-use Rattle.std.proofs.Common.{◌≡◌, ◌≤◌, ℕ, nat_lt, ◌&&◌, Bool, true, false, cond, Option, Some, None, List, [], ◌∷◌, ◌++◌, length, append-nil, append_assoc, refl, sym, subst, arith}
+use Rattle.std.proofs.Common.{◌≡◌, ◌≤◌, ℕ, nat_lt, ◌&&◌, Bool, true, false, cond, Option, Some, None, List, [], ◌∷◌}
+use Rattle.std.proofs.Common.{◌++◌, length, append-nil, append_assoc, refl, sym, subst, arith}
 use Rattle.std.specs.Prelude.{IfSome, option_map}
 use Rattle.std.specs.Str.{bytes_eq}
 use Rattle.std.proofs.lemmas.Bool.Decides.{nat_tests}
@@ -39,7 +40,8 @@ second false b h = absurd (cc)
 one-longer : (ds : List Datum) (d : Datum) → nat_lt (length ds) last_offset ≡ true → length (ds ++ d ∷ []) ≤ last_offset
 one-longer ds d h = let e = length-append ds (d ∷ []) in grind (arith, nat_tests, e)
 
-grown : (size : ℕ) (key : List ℕ) (d : Datum) (o : Option Life) → is_below o ≡ true → IsWithin (option_map (published size key d) o)
+grown : (size : ℕ) (key : List ℕ) (d : Datum) (o : Option Life) → is_below o ≡ true
+    → IsWithin (option_map (published size key d) o)
 grown size key d None h = absurd (cc)
 grown size key d (Some l) h = one-longer l.list d h
 
@@ -65,25 +67,32 @@ module _ (cfg : Config) where
       by_entry (Publish c key d) k =
           by_cond (bytes_eq c q) (option_map (published (size_at sizes q) key d) (life log q)) (life log q)
           (λ t. grown (size_at sizes q) key d (life log q)
-          (subst (λ (z : List ℕ). is_below (life log z) ≡ true) ((bytes_eq-Decides c q).0 t) (first _ _ (second _ _ k))))
+          (subst (λ (z : List ℕ). is_below (life log z) ≡ true) ((bytes_eq-Decides c q).0 t)
+          (first _ _ (second _ _ k))))
           (h q)
       by_entry (Trim c n) k =
-          by_cond (bytes_eq c q) (option_map (kept_newest n) (life log q)) (life log q) (λ t. trimmed n (life log q) (h q)) (h q)
+          by_cond (bytes_eq c q) (option_map (kept_newest n) (life log q)) (life log q)
+          (λ t. trimmed n (life log q) (h q)) (h q)
       by_entry (Forget c) k = by_cond (bytes_eq c q) None (life log q) (λ t. tt) (h q)
       by_entry (Size name n) k =
-          by_cond (in_namespace name q) (option_map (kept_newest n) (life log q)) (life log q) (λ t. trimmed n (life log q) (h q)) (h q)
+          by_cond (in_namespace name q) (option_map (kept_newest n) (life log q)) (life log q)
+          (λ t. trimmed n (life log q) (h q)) (h q)
 
   all_fit : (xs log : List Entry) → Fits log → MayAll cfg log xs → Fits (log ++ xs)
   all_fit [] log h k = subst Fits (sym (append-nil log)) h
-  all_fit (x ∷ xs) log h k = subst Fits (append_assoc log (x ∷ []) xs) (all_fit xs (log ++ x ∷ []) (step log x h k.0) k.1)
+  all_fit (x ∷ xs) log h k =
+      subst Fits (append_assoc log (x ∷ []) xs) (all_fit xs (log ++ x ∷ []) (step log x h k.0) k.1)
 
   pub fits : (log : List Entry) → MayAll cfg [] log → (q : List ℕ) → IsWithin (life log q)
   fits log k = all_fit log [] (λ q. tt) k
 
   joined : (b a xs : List Entry) → MayAll cfg a b → MayAll cfg (a ++ b) xs → MayAll cfg a (b ++ xs)
   joined [] a xs h k = subst (λ (l : List Entry). MayAll cfg l xs) (append-nil a) k
-  joined (x ∷ b) a xs h k =
-      (h.0, joined b (a ++ x ∷ []) xs h.1 (subst (λ (l : List Entry). MayAll cfg l xs) (sym (append_assoc a (x ∷ []) b)) k))
+  joined (x ∷ b) a xs h k = (
+    h.0,
+    joined b (a ++ x ∷ []) xs h.1 (subst (λ (l : List Entry). MayAll cfg l xs) (sym (append_assoc a (x ∷ []) b))
+        k),
+  )
 
   pub goes_on : (log more : List Entry) → MayAll cfg [] log → MayAll cfg log more → MayAll cfg [] (log ++ more)
   goes_on log more h k = joined log [] more h k

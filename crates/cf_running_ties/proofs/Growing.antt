@@ -1,5 +1,8 @@
--- What is in the logs, and what was accepted, stays, whatever section comes; and what waits on links stays but for two sections.
-use Rattle.std.proofs.Common.{◌≡◌, ◌≤◌, ℕ, zero, suc, ◌+◌, ◌&&◌, nat_le, nat_lt, Bool, true, false, if◌then◌else◌, is_some, Option, Some, None, List, [], ◌∷◌, ◌++◌, slice_get, append-nil, append_assoc, inl, inr, refl, sym, ap, subst, ◌∙◌, arith}
+-- What is in the logs, and what was accepted, stays, whatever section comes; and what waits on links stays but for two
+-- sections.
+use Rattle.std.proofs.Common.{◌≡◌, ◌≤◌, ℕ, zero, suc, ◌+◌, ◌&&◌, nat_le, nat_lt, Bool, true, false, if◌then◌else◌}
+use Rattle.std.proofs.Common.{is_some, Option, Some, None, List, [], ◌∷◌, ◌++◌, slice_get, append-nil, append_assoc}
+use Rattle.std.proofs.Common.{inl, inr, refl, sym, ap, subst, ◌∙◌, arith}
 use Rattle.std.specs.List.{AllByRecursion, fold}
 use Rattle.std.specs.Str.{bytes_eq}
 use Rattle.std.proofs.lemmas.List.Sums.{fold-append}
@@ -12,7 +15,10 @@ use Rattle.cf_hub.specs.InNotes.{Grown}
 use Rattle.cf_machine.specs.PublicationList.{Place}
 use Rattle.cf_machine.proofs.Names.{by_test}
 use Rattle.cf_running.specs.Server as server
-use Rattle.cf_running.specs.Server.{ClientCommand, Lookup, Server, Site, Work, ToPublish, server_after, can_gain, gathered, gathered_in, is_in, lists_of, may_send, place_of, words_of, Section, Gains, Sizes, Publishes, Offers, Checks, Delivers, Attaches, Wanders, Strays, Sends, Receives, Breaks}
+use Rattle.cf_running.specs.Server.{ClientCommand, Lookup, Server, Site, Work, ToPublish, server_after, can_gain}
+use Rattle.cf_running.specs.Server.{gathered, gathered_in, is_in, lists_of, may_send, place_of, words_of, Section}
+use Rattle.cf_running.specs.Server.{Gains, Sizes, Publishes, Offers, Checks, Delivers, Attaches, Wanders, Strays, Sends}
+use Rattle.cf_running.specs.Server.{Receives, Breaks}
 use Rattle.cf_running.proofs.Beside.{number_tells}
 use Rattle.cf_running_ties.specs.Links.{is_at_link}
 use Rattle.cf_running_ties.specs.Reads.{SectionHas, WorkHas}
@@ -36,7 +42,8 @@ pub record More (P : Datum → Type 0) (old new : List Datum) : Type 0 where
 none-more : (P : Datum → Type 0) (old new : List Datum) → new ≡ old → More P old new
 none-more P old new e = record { more = []; all = tt; is = e ∙ sym (append-nil old) }
 
-gathered-grows : (P : Datum → Type 0) (c e : List ℕ) (p : Option (List ℕ) × List Datum) (x : Entry) → Has P x → More P p.1 (gathered c e p x).1
+gathered-grows : (P : Datum → Type 0) (c e : List ℕ) (p : Option (List ℕ) × List Datum) (x : Entry) → Has P x
+    → More P p.1 (gathered c e p x).1
 gathered-grows P c e p (Open d i) h = none-more P p.1 _ (stays (bytes_eq d c))
   where
     stays : (b : Bool) → (if b then (Some i, p.1) else p).1 ≡ p.1
@@ -55,11 +62,13 @@ gathered-grows P c e p (Forget d) h = none-more P p.1 _ (stays (bytes_eq d c))
     stays true = refl
     stays false = refl
 
-pub all-append : {A : Type 0} (P : A → Type 0) (xs ys : List A) → AllByRecursion P xs → AllByRecursion P ys → AllByRecursion P (xs ++ ys)
+pub all-append : {A : Type 0} (P : A → Type 0) (xs ys : List A) → AllByRecursion P xs → AllByRecursion P ys
+    → AllByRecursion P (xs ++ ys)
 all-append P [] ys h k = k
 all-append P (x ∷ xs) ys h k = (h.0, all-append P xs ys h.1 k)
 
-all-gathered : (P : Datum → Type 0) (c e : List ℕ) (es : List Entry) (p : Option (List ℕ) × List Datum) → AllByRecursion (Has P) es → More P p.1 (fold (gathered c e) p es).1
+all-gathered : (P : Datum → Type 0) (c e : List ℕ) (es : List Entry) (p : Option (List ℕ) × List Datum)
+    → AllByRecursion (Has P) es → More P p.1 (fold (gathered c e) p es).1
 all-gathered P c e [] p h = none-more P p.1 p.1 refl
 all-gathered P c e (x ∷ es) p h =
     let a = gathered-grows P c e p x h.0 in
@@ -81,7 +90,8 @@ pub record Grows (P : Datum → Type 0) (s t : Server) : Type 0 where
   pub accepted : (ps : List Place) × (t.accepted ≡ s.accepted ++ ps)
   pub count : s.count ≤ t.count
 
-lists-grow : (P : Datum → Type 0) (site : Site) (s t : Server) → Grows P s t → (c e : List ℕ) → More P (lists_of site s c e) (lists_of site t c e)
+lists-grow : (P : Datum → Type 0) (site : Site) (s t : Server) → Grows P s t → (c e : List ℕ)
+    → More P (lists_of site s c e) (lists_of site t c e)
 lists-grow P site s t h c e =
     let n : ℕ = site.shard_of c in
     let more = h.logs n in
@@ -89,15 +99,21 @@ lists-grow P site s t h c e =
     record {
       more = from.more;
       all = from.all;
-      is = ap (λ (log : List Entry). (gathered_in log c e).1) more.is ∙ ap (λ (p : Option (List ℕ) × List Datum). p.1) (fold-append (gathered c e) (None, []) (s.logs n) more.more) ∙ from.is;
+      is = ap (λ (log : List Entry). (gathered_in log c e).1) more.is
+          ∙ ap (λ (p : Option (List ℕ) × List Datum). p.1) (fold-append (gathered c e) (None, []) (s.logs n) more.more)
+          ∙ from.is;
     }
 
-pub grown-lists : (P : Datum → Type 0) (site : Site) (s t : Server) → Grows P s t → Grown (lists_of site s) (lists_of site t)
+pub grown-lists : (P : Datum → Type 0) (site : Site) (s t : Server) → Grows P s t
+    → Grown (lists_of site s) (lists_of site t)
 grown-lists P site s t h = record { later = λ c e. let m = lists-grow P site s t h c e in (m.more, m.is) }
 
 -- what all that is listed has, all has that is listed then
-pub all-listed : (P : Datum → Type 0) (site : Site) (s t : Server) → Grows P s t → ((c e : List ℕ) → AllByRecursion P (lists_of site s c e)) → (c e : List ℕ) → AllByRecursion P (lists_of site t c e)
-all-listed P site s t h k c e = let m = lists-grow P site s t h c e in subst (AllByRecursion P) (sym m.is) (all-append P (lists_of site s c e) m.more (k c e) m.all)
+pub all-listed : (P : Datum → Type 0) (site : Site) (s t : Server) → Grows P s t
+    → ((c e : List ℕ) → AllByRecursion P (lists_of site s c e)) → (c e : List ℕ)
+    → AllByRecursion P (lists_of site t c e)
+all-listed P site s t h k c e = let m = lists-grow P site s t h c e in
+    subst (AllByRecursion P) (sym m.is) (all-append P (lists_of site s c e) m.more (k c e) m.all)
 
 at_least : (n : ℕ) → n ≤ n
 at_least n = omega arith
@@ -138,7 +154,12 @@ module _ (P : Datum → Type 0) (site : Site) (s : Server) where
   same_log old new e = record { more = []; all = tt; is = e ∙ sym (append-nil old) }
 
   grows_not : (t : Server) → t.logs ≡ s.logs → t.accepted ≡ s.accepted → s.count ≤ t.count → Grows P s t
-  grows_not t l a n = record { count = n; logs = λ n. same_log (s.logs n) (t.logs n) (λ i. l i n); accepted = ([], a ∙ sym (append-nil s.accepted)) }
+  grows_not t l a n =
+      record {
+        count = n;
+        logs = λ n. same_log (s.logs n) (t.logs n) (λ i. l i n);
+        accepted = ([], a ∙ sym (append-nil s.accepted));
+      }
 
   still : (t : Server) → t.logs ≡ s.logs → t.accepted ≡ s.accepted → t.links ≡ s.links → s.count ≤ t.count → Kept t
   still t l a k n = record { grows = grows_not t l a n; links = k }
@@ -158,13 +179,25 @@ module _ (P : Datum → Type 0) (site : Site) (s : Server) where
 
   gains-kept : (n : ℕ) (x : Entry) → Has P x → Kept (server.gains site n x s)
   gains-kept n x has = by_test Kept (can_gain site n x s) _ _
-      (λ h. record { grows = record { logs = gained-log n x has; accepted = ([], sym (append-nil s.accepted)); count = at_least s.count }; links = refl }) (λ h. here)
+      (λ h. record {
+        grows = record {
+          logs = gained-log n x has;
+          accepted = ([], sym (append-nil s.accepted));
+          count = at_least s.count;
+        };
+        links = refl;
+      }) (λ h. here)
 
   publishes-kept : (k : ℕ) (h : Work) → WorkHas P h → Kept (server.publishes site k h s)
-  publishes-kept k (ToPublish c id key d) has = by_test Kept (server.repeats key (server.life_of site s c)) _ _ (λ r. still _ refl refl refl (at_least s.count))
+  publishes-kept k (ToPublish c id key d) has =
+      by_test Kept (server.repeats key (server.life_of site s c)) _ _ (λ r. still _ refl refl refl (at_least s.count))
       (λ r. by_test Kept (can_gain site (site.shard_of c) (Publish c key d) s) _ _
       (λ h. record {
-        grows = record { logs = gained-log (site.shard_of c) (Publish c key d) has; accepted = (server.place_in c (server.life_of site s c), refl); count = at_least s.count };
+        grows = record {
+          logs = gained-log (site.shard_of c) (Publish c key d) has;
+          accepted = (server.place_in c (server.life_of site s c), refl);
+          count = at_least s.count;
+        };
         links = refl;
       })
       (λ h. here))
@@ -176,11 +209,14 @@ module _ (P : Datum → Type 0) (site : Site) (s : Server) where
 
   comes-kept : (x : List ℕ) (n : ℕ) (o : Option ℕ) → Kept (server.comes_to site x n o s)
   comes-kept x n (Some k) = here
-  comes-kept x n None = by_test Kept (nat_lt n site.config.nodes) _ _ (λ h. still _ refl refl refl (one_above s.count)) (λ h. here)
+  comes-kept x n None =
+      by_test Kept (nat_lt n site.config.nodes) _ _ (λ h. still _ refl refl refl (one_above s.count)) (λ h. here)
 
   sends-kept : (x : List ℕ) (e : ClientCommand) (o : Option ℕ) → Kept (server.sends_by x e o s)
   sends-kept x e None = here
-  sends-kept x e (Some k) = by_test Kept (nat_le (s.clients x).fresh last_id && may_send (s.clients x) e) _ _ (λ h. still _ refl refl refl (at_least s.count)) (λ h. here)
+  sends-kept x e (Some k) =
+      by_test Kept (nat_le (s.clients x).fresh last_id && may_send (s.clients x) e)
+      _ _ (λ h. still _ refl refl refl (at_least s.count)) (λ h. here)
 
   parts-kept : (x : List ℕ) (o : Option ℕ) → Kept (server.parts_from x o s)
   parts-kept x None = here
@@ -207,8 +243,11 @@ module _ (P : Datum → Type 0) (site : Site) (s : Server) where
   kept (Publishes k) has e = publishes-kept k (s.connections k).work has
   kept (Checks i) has e = checks-kept (slice_get s.lookups i)
   kept (Attaches x n) has e = comes-kept x n (s.seats x)
-  kept (Wanders n) has e = by_test Kept (nat_lt n site.config.nodes) _ _ (λ h. still _ refl refl refl (one_above s.count)) (λ h. here)
-  kept (Strays k c) has e = by_test Kept (server.is_seat k (s.seats (s.connections k).client)) _ _ (λ h. here) (λ h. still _ refl refl refl (at_least s.count))
+  kept (Wanders n) has e =
+      by_test Kept (nat_lt n site.config.nodes) _ _ (λ h. still _ refl refl refl (one_above s.count)) (λ h. here)
+  kept (Strays k c) has e =
+      by_test Kept (server.is_seat k (s.seats (s.connections k).client)) _ _ (λ h. here)
+      (λ h. still _ refl refl refl (at_least s.count))
   kept (Sends x c) has e = sends-kept x c (s.seats x)
   kept (Receives x) has e = receives-kept x (s.seats x)
   kept (Breaks x) has e = parts-kept x (s.seats x)
@@ -219,7 +258,9 @@ module _ (P : Datum → Type 0) (site : Site) (s : Server) where
   delivers-grows n (i ∷ rest) = grows_not _ refl refl (at_least s.count)
 
   pub grows : (x : Section) → SectionHas P s x → Grows P s (server_after site x s)
-  grows (Offers i n) has = by_test (Grows P s) (is_some (place_of i s.accepted)) _ _ (λ h. grows_not _ refl refl (at_least s.count)) (λ h. grows_not s refl refl (at_least s.count))
+  grows (Offers i n) has =
+      by_test (Grows P s) (is_some (place_of i s.accepted)) _ _ (λ h. grows_not _ refl refl (at_least s.count))
+      (λ h. grows_not s refl refl (at_least s.count))
   grows (Delivers n) has = delivers-grows n (s.links n)
   grows other has = (kept other has refl).grows
 

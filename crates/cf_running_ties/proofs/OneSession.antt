@@ -1,13 +1,16 @@
 -- A hub stays beside its node where one session changes, comes or goes, and where something happens elsewhere.
-use Rattle.std.proofs.Common.{◌≡◌, ◌≢◌, inl, inr, ◌<◌, ◌≤◌, ℕ, ◌+◌, nat_lt, Bool, true, false, if◌then◌else◌, Option, Some, None, List, [], ◌∷◌, option_map, refl, sym, ap, ◌∙◌, subst, arith}
+use Rattle.std.proofs.Common.{◌≡◌, ◌≢◌, inl, inr, ◌<◌, ◌≤◌, ℕ, ◌+◌, nat_lt, Bool, true, false, if◌then◌else◌, Option}
+use Rattle.std.proofs.Common.{Some, None, List, [], ◌∷◌, option_map, refl, sym, ap, ◌∙◌, subst, arith}
 use Rattle.cf_protocol.specs.Note as note
 use Rattle.cf_hub.specs.AlikeMoves.{Notes, Texts}
-use Rattle.cf_hub.specs.Hub.{InState, Meets, Node, One, moves as moved_by, Opens, OthersStay, attached_at, client_id, empty, fresh}
+use Rattle.cf_hub.specs.Hub.{InState, Meets, Node, One, moves as moved_by, Opens, OthersStay, attached_at, client_id}
+use Rattle.cf_hub.specs.Hub.{empty, fresh}
 use Rattle.cf_hub.specs.Session.{Attached}
 use Rattle.cf_model.specs.Sessions.{closes_now, opens}
 use Rattle.cf_hub.specs.WantOfMemory.{Both}
 use Rattle.cf_running.specs.Server as server
-use Rattle.cf_running.specs.Server.{Attaches, Closes, Connection, Detaches, Section, Server, Site, Wanders, server_after, at_number, at_session, change, lists_of, nowhere, start}
+use Rattle.cf_running.specs.Server.{Attaches, Closes, Connection, Detaches, Section, Server, Site, Wanders}
+use Rattle.cf_running.specs.Server.{server_after, at_number, at_session, change, lists_of, nowhere, start}
 use Rattle.cf_protocol.specs.Names.{with}
 use Rattle.cf_running.proofs.Beside.{at-other, at-same, number_tells}
 use Rattle.cf_hub_moves.specs.HubAsides.{KeepSaying, MovesAmong, MovesOrCloses}
@@ -18,16 +21,19 @@ use Rattle.cf_running_ties.proofs.Growing.{Any, Grows, any-section, grown-lists,
 some_is : (j k : ℕ) → ◌≡◌ {A = Option ℕ} (Some j) (Some k) → j ≡ k
 some_is j k e = cc
 
-pub starts : (is_aside : List ℕ → Bool) (site : Site) (n boot : ℕ) → IsHubOf is_aside site start n (λ j. None) (empty n boot)
+pub starts : (is_aside : List ℕ → Bool) (site : Site) (n boot : ℕ)
+    → IsHubOf is_aside site start n (λ j. None) (empty n boot)
 starts is_aside site n boot = record {
   each = λ j. tt;
   apart = λ i j k e f. absurd (cc);
   all = λ k e f. absurd (let no : false ≡ true = f in cc);
 }
 
-module _ (is_aside : List ℕ → Bool) (site : Site) (s : Server) (n : ℕ) (numbers : ℕ → Option ℕ) (old : Node) (h : IsHubOf is_aside site s n numbers old) where
+module _ (is_aside : List ℕ → Bool) (site : Site) (s : Server) (n : ℕ) (numbers : ℕ → Option ℕ) (old : Node)
+    (h : IsHubOf is_aside site s n numbers old) where
   -- a number that has a connection
-  its : (a : Option Attached) (o : Option ℕ) → ConnectedBy is_aside site s n a o → (k : ℕ) → o ≡ Some k → (b : Attached) × IsConnected is_aside site s n k b
+  its : (a : Option Attached) (o : Option ℕ) → ConnectedBy is_aside site s n a o → (k : ℕ) → o ≡ Some k → (b : Attached)
+      × IsConnected is_aside site s n k b
   its None None c k e = absurd (cc)
   its None (Some i) c k e = absurd c
   its (Some a) None c k e = absurd (cc)
@@ -46,7 +52,8 @@ module _ (is_aside : List ℕ → Bool) (site : Site) (s : Server) (n : ℕ) (nu
 
   -- a session whose connection is as it was, in a server with the same logs and no fewer connections
   moved : (t : Server) → lists_of site t ≡ lists_of site s → s.count ≤ t.count → (o : Option Attached) (m : Option ℕ)
-      → ((k : ℕ) → m ≡ Some k → t.connections k ≡ s.connections k) → ConnectedBy is_aside site s n o m → ConnectedBy is_aside site t n o m
+      → ((k : ℕ) → m ≡ Some k → t.connections k ≡ s.connections k) → ConnectedBy is_aside site s n o m
+      → ConnectedBy is_aside site t n o m
   moved t l more None None e c = tt
   moved t l more None (Some k) e c = absurd c
   moved t l more (Some a) None e c = absurd c
@@ -59,8 +66,10 @@ module _ (is_aside : List ℕ → Bool) (site : Site) (s : Server) (n : ℕ) (nu
   }
 
   -- session j has connection k, which changes
-  pub one : (new : Node) (j k : ℕ) (f : Connection → Connection) (a : Attached) → numbers j ≡ Some k → OthersStay j old new → attached_at new j ≡ Some a
-      → (f (s.connections k)).node ≡ n → (f (s.connections k)).attached ≡ true → Says is_aside (lists_of site s) a.state (f (s.connections k)).session
+  pub one : (new : Node) (j k : ℕ) (f : Connection → Connection) (a : Attached) → numbers j ≡ Some k
+      → OthersStay j old new → attached_at new j ≡ Some a
+      → (f (s.connections k)).node ≡ n → (f (s.connections k)).attached ≡ true
+      → Says is_aside (lists_of site s) a.state (f (s.connections k)).session
       → IsHubOf is_aside site (change k f s) n numbers new
   one new j k f a at others is node attached says = record {
     each = λ i. elim (number_tells i j) [
@@ -76,14 +85,17 @@ module _ (is_aside : List ℕ → Bool) (site : Site) (s : Server) (n : ℕ) (nu
       | inr e ↦
           subst (λ o. ConnectedBy is_aside site (change k f s) n o (numbers i)) (sym (others i e.1))
           (moved (change k f s) refl (omega arith) (attached_at old i) (numbers i)
-          (λ m g. at-other s.connections k (f (s.connections k)) m (λ same. e.1 (h.apart i j k (g ∙ ap Some same) at))) (h.each i))
+          (λ m g. at-other s.connections k (f (s.connections k)) m (λ same. e.1 (h.apart i j k (g ∙ ap Some same) at)))
+          (h.each i))
     ];
     apart = h.apart;
     all = λ m e g. elim (number_tells m k) [
       | inl same ↦ (j, at ∙ ap Some (sym same.1))
       | inr other ↦
-          let there : at_number s.connections k (f (s.connections k)) m ≡ s.connections m = at-other s.connections k (f (s.connections k)) m other.1 in
-          h.all m (sym (ap (λ (x : Connection). x.node) there) ∙ e) (sym (ap (λ (x : Connection). x.attached) there) ∙ g)
+          let there : at_number s.connections k (f (s.connections k)) m ≡ s.connections m =
+          at-other s.connections k (f (s.connections k)) m other.1 in
+          h.all m (sym (ap (λ (x : Connection). x.node) there) ∙ e)
+          (sym (ap (λ (x : Connection). x.attached) there) ∙ g)
     ];
   }
     where
@@ -91,34 +103,43 @@ module _ (is_aside : List ℕ → Bool) (site : Site) (s : Server) (n : ℕ) (nu
       here = at-same s.connections k (f (s.connections k))
 
   -- the session of a number that has a connection
-  its_session : (a : Option Attached) (o : Option ℕ) → ConnectedBy is_aside site s n a o → (k : ℕ) → o ≡ Some k → (b : Attached) × (a ≡ Some b) × IsConnected is_aside site s n k b
+  its_session : (a : Option Attached) (o : Option ℕ) → ConnectedBy is_aside site s n a o → (k : ℕ) → o ≡ Some k
+      → (b : Attached) × (a ≡ Some b) × IsConnected is_aside site s n k b
   its_session None None c k e = absurd (cc)
   its_session None (Some i) c k e = absurd c
   its_session (Some a) None c k e = absurd (cc)
   its_session (Some a) (Some i) c k e = (a, refl, subst (λ z. IsConnected is_aside site s n z a) (some_is i k e) c)
 
   -- it makes a move
-  pub moves : (new : Node) (j k : ℕ) (f : Texts → Texts) (g : Notes → Notes) (t : Connection → Connection) → numbers j ≡ Some k → One j f old new
-      → KeepSaying (λ text. is_aside text ≡ true) (lists_of site s) f g → Moves g t → IsHubOf is_aside site (change k t s) n numbers new
+  pub moves : (new : Node) (j k : ℕ) (f : Texts → Texts) (g : Notes → Notes) (t : Connection → Connection)
+      → numbers j ≡ Some k → One j f old new
+      → KeepSaying (λ text. is_aside text ≡ true) (lists_of site s) f g → Moves g t
+      → IsHubOf is_aside site (change k t s) n numbers new
   moves new j k f g t at o keep m =
       let b = its_session (attached_at old j) (numbers j) (h.each j) k at in
       let c = b.2 in
       let x : Connection = s.connections k in
-      one new j k t (moved_by f b.0) at o.others (o.here ∙ ap (option_map (moved_by f)) b.1) (m.node x ∙ c.here) (m.attached x ∙ c.attached)
-      (subst (λ z. Says is_aside (lists_of site s) (f b.0.state) z) (sym (m.session x c.attached)) (keep b.0.state x.session c.says))
+      one new j k t (moved_by f b.0) at o.others (o.here ∙ ap (option_map (moved_by f)) b.1) (m.node x ∙ c.here)
+      (m.attached x ∙ c.attached)
+      (subst (λ z. Says is_aside (lists_of site s) (f b.0.state) z) (sym (m.session x c.attached))
+      (keep b.0.state x.session c.says))
 
   -- it is closed, and then makes a move
-  closed_move : (code : ℕ) (g : Notes → Notes) (t : Connection → Connection) → Moves g t → Moves (λ z. g (closes_now (note.Close code) z)) (λ y. t (at_session (closes_now (note.Close code)) y))
+  closed_move : (code : ℕ) (g : Notes → Notes) (t : Connection → Connection) → Moves g t
+      → Moves (λ z. g (closes_now (note.Close code) z)) (λ y. t (at_session (closes_now (note.Close code)) y))
   closed_move code g t m = record {
     node = λ y. m.node (close y) ∙ (place y.attached y).0;
     attached = λ y. m.attached (close y) ∙ (place y.attached y).1;
-    session = λ y e. m.session (close y) ((place y.attached y).1 ∙ e) ∙ ap (λ (b : Bool). g (if b then record y { session = closes_now (note.Close code) y.session } else y).session) e;
+    session = λ y e. m.session (close y) ((place y.attached y).1 ∙ e)
+        ∙ ap (λ (b : Bool). g (if b then record y { session = closes_now (note.Close code) y.session } else y).session)
+        e;
   }
     where
       close : Connection → Connection
       close y = at_session (closes_now (note.Close code)) y
 
-      place : (b : Bool) (y : Connection) → ((if b then record y { session = closes_now (note.Close code) y.session } else y).node ≡ y.node)
+      place : (b : Bool) (y : Connection) → ((if b then record y { session = closes_now (note.Close code) y.session }
+          else y).node ≡ y.node)
           × ((if b then record y { session = closes_now (note.Close code) y.session } else y).attached ≡ y.attached)
       place true y = (refl, refl)
       place false y = (refl, refl)
@@ -133,14 +154,19 @@ module _ (is_aside : List ℕ → Bool) (site : Site) (s : Server) (n : ℕ) (nu
       at : (m : ℕ) → at_number mid k (t (mid k)) m ≡ at_number s.connections k (t (u (s.connections k))) m
       at m = elim (number_tells m k) [
         | inl e ↦
-            ap (at_number mid k (t (mid k))) e.1 ∙ at-same mid k (t (mid k)) ∙ ap t (at-same s.connections k (u (s.connections k)))
-            ∙ sym (ap (at_number s.connections k (t (u (s.connections k)))) e.1 ∙ at-same s.connections k (t (u (s.connections k))))
-        | inr e ↦ at-other mid k (t (mid k)) m e.1 ∙ at-other s.connections k (u (s.connections k)) m e.1 ∙ sym (at-other s.connections k (t (u (s.connections k))) m e.1)
+            ap (at_number mid k (t (mid k))) e.1 ∙ at-same mid k (t (mid k))
+            ∙ ap t (at-same s.connections k (u (s.connections k)))
+            ∙ sym (ap (at_number s.connections k (t (u (s.connections k)))) e.1
+            ∙ at-same s.connections k (t (u (s.connections k))))
+        | inr e ↦ at-other mid k (t (mid k)) m e.1 ∙ at-other s.connections k (u (s.connections k)) m e.1
+            ∙ sym (at-other s.connections k (t (u (s.connections k))) m e.1)
       ]
 
   -- it meets a call that may want memory
-  pub meets : (new : Node) (j k : ℕ) (R : Bool → Texts → Texts → Type 0) (g : Notes → Notes) (t : Connection → Connection) → numbers j ≡ Some k → Meets j R old new
-      → ((hit : Bool) (a to : Texts) (b : Notes) → Says is_aside (lists_of site s) a b → R hit a to → MovesOrCloses (λ text. is_aside text ≡ true) (lists_of site s) g to b)
+  pub meets : (new : Node) (j k : ℕ) (R : Bool → Texts → Texts → Type 0) (g : Notes → Notes)
+      (t : Connection → Connection) → numbers j ≡ Some k → Meets j R old new
+      → ((hit : Bool) (a to : Texts) (b : Notes) → Says is_aside (lists_of site s) a b → R hit a to
+      → MovesOrCloses (λ text. is_aside text ≡ true) (lists_of site s) g to b)
       → Moves g t → MovesBehindClose is_aside site s n k numbers t new
   meets new j k R g t at o r m =
       let b = its_session (attached_at old j) (numbers j) (h.each j) k at in
@@ -149,14 +175,16 @@ module _ (is_aside : List ℕ → Bool) (site : Site) (s : Server) (n : ℕ) (nu
       x : Connection
       x = s.connections k
 
-      by_new : (y : Option Attached) → attached_at new j ≡ y → (a : Attached) → IsConnected is_aside site s n k a → Both (InState (R o.hit)) (Some a) y → MovesBehindClose is_aside site s n k numbers t new
+      by_new : (y : Option Attached) → attached_at new j ≡ y → (a : Attached) → IsConnected is_aside site s n k a
+          → Both (InState (R o.hit)) (Some a) y → MovesBehindClose is_aside site s n k numbers t new
       by_new None e a c both = absurd both
       by_new (Some y) e a c both =
           elim (r o.hit a.state y.state x.session c.says both.0) [
             | inl says ↦ record {
               closes = [];
               are = tt;
-              is = one new j k t y at o.others e (m.node x ∙ c.here) (m.attached x ∙ c.attached) (subst (λ z. Says is_aside (lists_of site s) y.state z) (sym (m.session x c.attached)) says);
+              is = one new j k t y at o.others e (m.node x ∙ c.here) (m.attached x ∙ c.attached)
+                  (subst (λ z. Says is_aside (lists_of site s) y.state z) (sym (m.session x c.attached)) says);
             }
             | inr says ↦
                 let u : Connection → Connection = at_session (closes_now (note.Close says.0)) in
@@ -174,23 +202,33 @@ module _ (is_aside : List ℕ → Bool) (site : Site) (s : Server) (n : ℕ) (nu
   module _ (new : Node) (j now : ℕ) (user : List ℕ) (all : MovesAmong (λ t. is_aside t ≡ true) (lists_of site s))
       (o : Opens j user now old new) (none : attached_at old j ≡ None) where
     came : (x : Connection) (seats : List ℕ → Option ℕ) → x.node ≡ n → x.attached ≡ true → x.session ≡ opens
-        → IsHubOf is_aside site (record s { connections = at_number s.connections s.count x; count = s.count + 1; seats = seats }) n (at_number numbers j (Some s.count)) new
+        → IsHubOf is_aside site (record s {
+          connections = at_number s.connections s.count x;
+          count = s.count + 1;
+          seats = seats;
+        }) n (at_number numbers j (Some s.count)) new
     came x seats node attached session = record {
       each = λ i. elim (number_tells i j) [
         | inl e ↦
-            subst (λ z. ConnectedBy is_aside site t n (attached_at new z) (at_number numbers j (Some s.count) z)) (sym e.1)
+            subst (λ z. ConnectedBy is_aside site t n (attached_at new z) (at_number numbers j (Some s.count) z))
+            (sym e.1)
             (subst (λ z. ConnectedBy is_aside site t n z (at_number numbers j (Some s.count) j)) (sym o.here)
-            (subst (λ z. ConnectedBy is_aside site t n (Some (fresh (client_id old.node old.boot (old.used + 1)) user now)) z) (sym (at_same numbers j (Some s.count))) (record {
+            (subst (λ z. ConnectedBy is_aside site t n (Some
+            (fresh (client_id old.node old.boot (old.used + 1)) user now)) z)
+            (sym (at_same numbers j (Some s.count))) (record {
               known = omega arith;
               here = ap (λ (y : Connection). y.node) here ∙ node;
               attached = ap (λ (y : Connection). y.attached) here ∙ attached;
-              says = subst (λ z. Says is_aside (lists_of site s) opens z) (sym (ap (λ (y : Connection). y.session) here ∙ session)) all.opens;
+              says = subst (λ z. Says is_aside (lists_of site s) opens z)
+                  (sym (ap (λ (y : Connection). y.session) here ∙ session)) all.opens;
             })))
         | inr e ↦
             subst (λ z. ConnectedBy is_aside site t n z (at_number numbers j (Some s.count) i)) (sym (o.others i e.1))
-            (subst (λ z. ConnectedBy is_aside site t n (attached_at old i) z) (sym (at_other numbers j (Some s.count) i e.1))
+            (subst (λ z. ConnectedBy is_aside site t n (attached_at old i) z)
+            (sym (at_other numbers j (Some s.count) i e.1))
             (moved t refl (omega arith) (attached_at old i) (numbers i)
-            (λ m g. at-other s.connections s.count x m (λ same. let below : m < s.count = known i m g in absurd (omega arith))) (h.each i)))
+            (λ m g. at-other s.connections s.count x m (λ same. let below : m
+            < s.count = known i m g in absurd (omega arith))) (h.each i)))
       ];
       apart = λ a b k e f. elim (number_tells a j) [
         | inl u ↦ elim (number_tells b j) [
@@ -199,15 +237,21 @@ module _ (is_aside : List ℕ → Bool) (site : Site) (s : Server) (n : ℕ) (nu
         ]
         | inr u ↦ elim (number_tells b j) [
           | inl v ↦ absurd (two a k (sym (at_other numbers j (Some s.count) a u.1) ∙ e) (sym (is_count b k v.1 f)))
-          | inr v ↦ h.apart a b k (sym (at_other numbers j (Some s.count) a u.1) ∙ e) (sym (at_other numbers j (Some s.count) b v.1) ∙ f)
+          | inr v ↦ h.apart a b k (sym (at_other numbers j (Some s.count) a u.1) ∙ e)
+              (sym (at_other numbers j (Some s.count) b v.1) ∙ f)
         ]
       ];
       all = λ m e g. elim (number_tells m s.count) [
         | inl same ↦ (j, at_same numbers j (Some s.count) ∙ ap Some (sym same.1))
         | inr other ↦
-            let there : at_number s.connections s.count x m ≡ s.connections m = at-other s.connections s.count x m other.1 in
-            let i = h.all m (sym (ap (λ (y : Connection). y.node) there) ∙ e) (sym (ap (λ (y : Connection). y.attached) there) ∙ g) in
-            (i.0, at_other numbers j (Some s.count) i.0 (λ same. absurd (let no : None ≡ Some m = sym (no_number j none) ∙ ap numbers (sym same) ∙ i.1 in cc)) ∙ i.1)
+            let there : at_number s.connections s.count x m ≡ s.connections m =
+            at-other s.connections s.count x m other.1 in
+            let i = h.all m (sym (ap (λ (y : Connection). y.node) there) ∙ e)
+            (sym (ap (λ (y : Connection). y.attached) there) ∙ g) in (
+              i.0,
+              at_other numbers j (Some s.count) i.0 (λ same. absurd
+                  (let no : None ≡ Some m = sym (no_number j none) ∙ ap numbers (sym same) ∙ i.1 in cc)) ∙ i.1,
+            )
       ];
     }
       where
@@ -224,7 +268,9 @@ module _ (is_aside : List ℕ → Bool) (site : Site) (s : Server) (n : ℕ) (nu
         at_other f i v m ne = at-other f i v m ne
 
         is_count : (a k : ℕ) → a ≡ j → at_number numbers j (Some s.count) a ≡ Some k → s.count ≡ k
-        is_count a k same e = some_is s.count k (sym (at_same numbers j (Some s.count)) ∙ ap (at_number numbers j (Some s.count)) (sym same) ∙ e)
+        is_count a k same e =
+            some_is s.count k (sym (at_same numbers j (Some s.count))
+            ∙ ap (at_number numbers j (Some s.count)) (sym same) ∙ e)
 
         two : (b k : ℕ) → numbers b ≡ Some k → k ≡ s.count → ⊥
         two b k e same = let below : k < s.count = known b k e in absurd (omega arith)
@@ -232,13 +278,15 @@ module _ (is_aside : List ℕ → Bool) (site : Site) (s : Server) (n : ℕ) (nu
     if_so : {X : Type 0} (b : Bool) (u v : X) → b ≡ true → (if b then u else v) ≡ u
     if_so b u v e = rw e refl
 
-    pub attaches : (x : List ℕ) → s.seats x ≡ None → nat_lt n site.config.nodes ≡ true → IsHubOf is_aside site (server_after site (Attaches x n) s) n (at_number numbers j (Some s.count)) new
+    pub attaches : (x : List ℕ) → s.seats x ≡ None → nat_lt n site.config.nodes ≡ true
+        → IsHubOf is_aside site (server_after site (Attaches x n) s) n (at_number numbers j (Some s.count)) new
     attaches x seat there =
         subst (λ (v : Server). IsHubOf is_aside site v n (at_number numbers j (Some s.count)) new)
         (sym (ap (λ z. server.comes_to site x n z s) seat ∙ if_so (nat_lt n site.config.nodes) _ s there))
         (came (record nowhere { client = x; node = n; attached = true }) (with s.seats x (Some s.count)) refl refl refl)
 
-    pub wanders : nat_lt n site.config.nodes ≡ true → IsHubOf is_aside site (server_after site (Wanders n) s) n (at_number numbers j (Some s.count)) new
+    pub wanders : nat_lt n site.config.nodes ≡ true
+        → IsHubOf is_aside site (server_after site (Wanders n) s) n (at_number numbers j (Some s.count)) new
     wanders there =
         subst (λ (v : Server). IsHubOf is_aside site v n (at_number numbers j (Some s.count)) new)
         (sym (if_so (nat_lt n site.config.nodes) _ s there))
@@ -258,17 +306,21 @@ module _ (is_aside : List ℕ → Bool) (site : Site) (s : Server) (n : ℕ) (nu
           subst (λ z. ConnectedBy is_aside site t n z (at_number numbers j None i)) (sym (others i e.1))
           (subst (λ z. ConnectedBy is_aside site t n (attached_at old i) z) (sym (at-other numbers j None i e.1))
           (moved t refl (omega arith) (attached_at old i) (numbers i)
-          (λ m g. at-other s.connections k (server.detaches code (s.connections k)) m (λ same. e.1 (h.apart i j k (g ∙ ap Some same) at))) (h.each i)))
+          (λ m g. at-other s.connections k (server.detaches code (s.connections k)) m
+          (λ same. e.1 (h.apart i j k (g ∙ ap Some same) at))) (h.each i)))
     ];
     apart = λ a b m e f. h.apart a b m (was a m e) (was b m f);
     all = λ m e g. elim (number_tells m k) [
       | inl same ↦ absurd (
           let gone : (t.connections m).attached ≡ false =
-          ap (λ z. (t.connections z).attached) same.1 ∙ ap (λ (y : Connection). y.attached) (at-same s.connections k (server.detaches code (s.connections k))) in
+          ap (λ z. (t.connections z).attached) same.1 ∙ ap (λ (y : Connection). y.attached)
+          (at-same s.connections k (server.detaches code (s.connections k))) in
           let no : true ≡ false = sym g ∙ gone in cc)
       | inr other ↦
-          let there : at_number s.connections k (server.detaches code (s.connections k)) m ≡ s.connections m = at-other s.connections k (server.detaches code (s.connections k)) m other.1 in
-          let i = h.all m (sym (ap (λ (y : Connection). y.node) there) ∙ e) (sym (ap (λ (y : Connection). y.attached) there) ∙ g) in
+          let there : at_number s.connections k (server.detaches code (s.connections k)) m ≡ s.connections m =
+          at-other s.connections k (server.detaches code (s.connections k)) m other.1 in
+          let i = h.all m (sym (ap (λ (y : Connection). y.node) there) ∙ e)
+          (sym (ap (λ (y : Connection). y.attached) there) ∙ g) in
           (i.0, at-other numbers j None i.0 (λ same. other.1 (some_is m k (sym i.1 ∙ ap numbers same ∙ at))) ∙ i.1)
     ];
   }
@@ -278,13 +330,15 @@ module _ (is_aside : List ℕ → Bool) (site : Site) (s : Server) (n : ℕ) (nu
 
       was : (a m : ℕ) → at_number numbers j None a ≡ Some m → numbers a ≡ Some m
       was a m e = elim (number_tells a j) [
-        | inl u ↦ absurd (let no : None ≡ Some m = sym (at-same numbers j None) ∙ ap (at_number numbers j None) (sym u.1) ∙ e in cc)
+        | inl u ↦ absurd (let no : None ≡ Some m = sym (at-same numbers j None)
+            ∙ ap (at_number numbers j None) (sym u.1) ∙ e in cc)
         | inr u ↦ sym (at-other numbers j None a u.1) ∙ e
       ]
 
   -- ---- elsewhere
 
-  pub stays : (x : Section) → ((k : ℕ) → IsUntouched n (s.connections k) ((server_after site x s).connections k)) → IsHubOf is_aside site (server_after site x s) n numbers old
+  pub stays : (x : Section) → ((k : ℕ) → IsUntouched n (s.connections k) ((server_after site x s).connections k))
+      → IsHubOf is_aside site (server_after site x s) n numbers old
   stays x u = record {
     each = λ j. by_session (attached_at old j) (numbers j) (h.each j);
     apart = h.apart;
@@ -297,7 +351,8 @@ module _ (is_aside : List ℕ → Bool) (site : Site) (s : Server) (n : ℕ) (nu
       g : Grows Any s t
       g = grows Any site s x (any-section s x)
 
-      by_session : (o : Option Attached) (m : Option ℕ) → ConnectedBy is_aside site s n o m → ConnectedBy is_aside site t n o m
+      by_session : (o : Option Attached) (m : Option ℕ) → ConnectedBy is_aside site s n o m
+          → ConnectedBy is_aside site t n o m
       by_session None None c = tt
       by_session None (Some k) c = absurd c
       by_session (Some a) None c = absurd c
@@ -306,5 +361,6 @@ module _ (is_aside : List ℕ → Bool) (site : Site) (s : Server) (n : ℕ) (nu
         here = (u k).node ∙ c.here;
         attached = (u k).attached ∙ c.attached;
         says = subst (λ z. Says is_aside (lists_of site t) a.state z) (sym ((u k).session c.here))
-            (among-grows (λ text. is_aside text ≡ true) (lists_of site s) (lists_of site t) (grown-lists Any site s t g) a.state (s.connections k).session c.says);
+            (among-grows (λ text. is_aside text ≡ true) (lists_of site s) (lists_of site t) (grown-lists Any site s t g)
+            a.state (s.connections k).session c.says);
       }

@@ -1,5 +1,7 @@
 -- What is seen of a log that was gained entry by entry is sound.
-use Rattle.std.proofs.Common.{◌≡◌, ◌≤◌, ℕ, zero, suc, ◌&&◌, ◌||◌, not, Bool, true, false, if◌then◌else◌, Option, Some, None, List, [], ◌∷◌, ◌++◌, length, slice_get, append-nil, append_assoc, refl, sym, ap, subst, arith}
+use Rattle.std.proofs.Common.{◌≡◌, ◌≤◌, ℕ, zero, suc, ◌&&◌, ◌||◌, not, Bool, true, false, if◌then◌else◌, Option, Some}
+use Rattle.std.proofs.Common.{None, List, [], ◌∷◌, ◌++◌, length, slice_get, append-nil, append_assoc, refl, sym, ap}
+use Rattle.std.proofs.Common.{subst, arith}
 use Rattle.std.specs.Prelude.{IfSome, fold, option_map}
 use Rattle.std.specs.List.{AllByRecursion, cons_option}
 use Rattle.std.specs.Str.{bytes_eq}
@@ -51,10 +53,12 @@ is-not true h = absurd (cc)
 is-not false h = refl
 
 -- all that a log lists can be read back
-listed-said : (c e : List ℕ) (es : List Entry) (t : Turn) → AllByRecursion CanBeSaid es → AllByRecursion IsDatum t.list → AllByRecursion IsDatum (fold (turn_after c e) t es).list
+listed-said : (c e : List ℕ) (es : List Entry) (t : Turn) → AllByRecursion CanBeSaid es → AllByRecursion IsDatum t.list
+    → AllByRecursion IsDatum (fold (turn_after c e) t es).list
 listed-said c e [] t h k = k
 listed-said c e (Open q y ∷ es) t h k = listed-said c e es (turn_after c e t (Open q y)) h.1 k
-listed-said c e (Publish q key d ∷ es) t h k = listed-said c e es (turn_after c e t (Publish q key d)) h.1 (by_bool (bytes_eq q c && t.stands))
+listed-said c e (Publish q key d ∷ es) t h k =
+    listed-said c e es (turn_after c e t (Publish q key d)) h.1 (by_bool (bytes_eq q c && t.stands))
   where
     by_bool : (b : Bool) → AllByRecursion IsDatum (if b then t.list ++ d ∷ [] else t.list)
     by_bool true = all-append IsDatum t.list (d ∷ []) k (h.0, tt)
@@ -68,7 +72,8 @@ opened-said : (c : List ℕ) (es : List Entry) → AllByRecursion CanBeSaid es �
 opened-said c [] h = tt
 opened-said c (Open q e ∷ es) h = by_bool (bytes_eq q c) (opened-said c es h.1)
   where
-    by_bool : (b : Bool) → AllByRecursion IsEpoch (epochs_in es c) → AllByRecursion IsEpoch (cons_option (if b then Some e else None) (epochs_in es c))
+    by_bool : (b : Bool) → AllByRecursion IsEpoch (epochs_in es c)
+        → AllByRecursion IsEpoch (cons_option (if b then Some e else None) (epochs_in es c))
     by_bool true k = (h.0, k)
     by_bool false k = k
 opened-said c (Publish q key d ∷ es) h = opened-said c es h.1
@@ -80,21 +85,25 @@ among-said : (e : List ℕ) (es : List (List ℕ)) → AllByRecursion IsEpoch es
 among-said e [] h k = absurd (cc)
 among-said e (x ∷ es) h k = by_bool (bytes_eq x e) refl k (among-said e es h.1)
   where
-    by_bool : (b : Bool) → bytes_eq x e ≡ b → (b || is_among e es) ≡ true → (is_among e es ≡ true → IsEpoch e) → IsEpoch e
+    by_bool : (b : Bool) → bytes_eq x e ≡ b → (b || is_among e es) ≡ true → (is_among e es ≡ true → IsEpoch e)
+        → IsEpoch e
     by_bool true is k rest = subst IsEpoch ((bytes_eq-Decides x e).0 is) h.0
     by_bool false is k rest = rest k
 
 -- a publication of a list is one of its data
-got : (ds : List Datum) (o : ℕ) (d : Datum) → AllByRecursion IsDatum ds → slice_get ds o ≡ Some d → IsDatum d × (suc o ≤ length ds)
+got : (ds : List Datum) (o : ℕ) (d : Datum) → AllByRecursion IsDatum ds → slice_get ds o ≡ Some d → IsDatum d
+    × (suc o ≤ length ds)
 got [] o d h k = absurd (cc)
 got (x ∷ ds) zero d h k = let same : x ≡ d = cc (k) in (subst IsDatum same h.0, omega arith)
 got (x ∷ ds) (suc o) d h k = let g = got ds o d h.1 k in let below : suc o ≤ length ds = g.1 in (g.0, omega arith)
 
-placed-said : (ds : List Datum) (o : ℕ) (p : Placed) → AllByRecursion IsDatum ds → length ds ≤ max_u64 → placed_at ds o ≡ Some p → IsPlaced IsBody p
+placed-said : (ds : List Datum) (o : ℕ) (p : Placed) → AllByRecursion IsDatum ds → length ds ≤ max_u64
+    → placed_at ds o ≡ Some p → IsPlaced IsBody p
 placed-said ds zero p h fits k = absurd (cc)
 placed-said ds (suc o) p h fits k = by_datum (slice_get ds o) refl k
   where
-    by_datum : (x : Option Datum) → slice_get ds o ≡ x → option_map (λ d. record { offset = suc o; datum = d }) x ≡ Some p → IsPlaced IsBody p
+    by_datum : (x : Option Datum) → slice_get ds o ≡ x
+        → option_map (λ d. record { offset = suc o; datum = d }) x ≡ Some p → IsPlaced IsBody p
     by_datum None is k = absurd (cc)
     by_datum (Some d) is k =
         let g = got ds o d h is in
@@ -105,14 +114,21 @@ placed-said ds (suc o) p h fits k = by_datum (slice_get ds o) refl k
 -- ---- no epoch opens again
 
 -- in an epoch in which the channel doesn't open, nothing is listed more
-never : (c y : List ℕ) (es : List Entry) (t : Turn) → t.stands ≡ false → t.list ≡ [] → is_among y (epochs_in es c) ≡ false → (fold (turn_after c y) t es).list ≡ []
+never : (c y : List ℕ) (es : List Entry) (t : Turn) → t.stands ≡ false → t.list ≡ []
+    → is_among y (epochs_in es c) ≡ false → (fold (turn_after c y) t es).list ≡ []
 never c y [] t s l h = l
-never c y (Open q e ∷ es) t s l h = never c y es (turn_after c y t (Open q e)) (by_bool (bytes_eq q c) h).0 l (by_bool (bytes_eq q c) h).1
+never c y (Open q e ∷ es) t s l h =
+    never c y es (turn_after c y t (Open q e)) (by_bool (bytes_eq q c) h).0 l (by_bool (bytes_eq q c) h).1
   where
-    by_bool : (b : Bool) → is_among y (cons_option (if b then Some e else None) (epochs_in es c)) ≡ false → ((if b then bytes_eq e y else t.stands) ≡ false) × (is_among y (epochs_in es c) ≡ false)
-    by_bool true k = (either-first (bytes_eq e y) (is_among y (epochs_in es c)) k, either-second (bytes_eq e y) (is_among y (epochs_in es c)) k)
+    by_bool : (b : Bool) → is_among y (cons_option (if b then Some e else None) (epochs_in es c)) ≡ false
+        → ((if b then bytes_eq e y else t.stands) ≡ false) × (is_among y (epochs_in es c) ≡ false)
+    by_bool true k = (
+      either-first (bytes_eq e y) (is_among y (epochs_in es c)) k,
+      either-second (bytes_eq e y) (is_among y (epochs_in es c)) k,
+    )
     by_bool false k = (s, k)
-never c y (Publish q key d ∷ es) t s l h = never c y es (turn_after c y t (Publish q key d)) s (by_bool (bytes_eq q c) t.stands s) h
+never c y (Publish q key d ∷ es) t s l h =
+    never c y es (turn_after c y t (Publish q key d)) s (by_bool (bytes_eq q c) t.stands s) h
   where
     by_bool : (a b : Bool) → b ≡ false → (if a && b then t.list ++ d ∷ [] else t.list) ≡ []
     by_bool true true k = absurd (cc)
@@ -133,20 +149,24 @@ module _ (cfg : Config) where
 
   back : (xs ys a : List Entry) → MayAll cfg a (xs ++ ys) → MayAll cfg (a ++ xs) ys
   back [] ys a h = subst (λ (l : List Entry). MayAll cfg l ys) (sym (append-nil a)) h
-  back (x ∷ xs) ys a h = subst (λ (l : List Entry). MayAll cfg l ys) (append_assoc a (x ∷ []) xs) (back xs ys (a ++ x ∷ []) h.1)
+  back (x ∷ xs) ys a h =
+      subst (λ (l : List Entry). MayAll cfg l ys) (append_assoc a (x ∷ []) xs) (back xs ys (a ++ x ∷ []) h.1)
 
-  drawn : (before : List Entry) (q y : List ℕ) → may_gain cfg before (Open q y) ≡ true → is_among y (epochs_in before q) ≡ false
+  drawn : (before : List Entry) (q y : List ℕ) → may_gain cfg before (Open q y) ≡ true
+      → is_among y (epochs_in before q) ≡ false
   drawn before q y h = is-not (is_among y (epochs_in before q)) (and_parts _ _ (and_parts _ _ h).1).1
 
   opens-fresh : (c : List ℕ) (log : List Entry) → MayAll cfg [] log → OpensFresh c log
   opens-fresh c log h = λ before after q y is about.
       let may = back before (Open q y ∷ after) [] (subst (MayAll cfg []) is h) in
       never c y before no_turn refl refl
-      (subst (λ (z : List ℕ). is_among y (epochs_in before z) ≡ false) ((bytes_eq-Decides q c).0 about) (drawn before q y may.0))
+      (subst (λ (z : List ℕ). is_among y (epochs_in before z) ≡ false) ((bytes_eq-Decides q c).0 about)
+      (drawn before q y may.0))
 
   -- ---- at a point of a log
 
-  module _ (c e : List ℕ) (before log : List Entry) (h : IsGood cfg log) (begins : IsPrefix before log) (opened : epoch_in before c ≡ Some e) where
+  module _ (c e : List ℕ) (before log : List Entry) (h : IsGood cfg log) (begins : IsPrefix before log)
+      (opened : epoch_in before c ≡ Some e) where
     gained : MayAll cfg [] before
     gained = front before begins.0 [] (subst (MayAll cfg []) (sym begins.1) h.gained)
 
@@ -160,19 +180,31 @@ module _ (cfg : Config) where
     all = subst (AllByRecursion IsDatum) (sym once) (listed-said c e before no_turn said tt)
 
     abbrev life : Life
-    life = record { epoch = e; list = list_in before c; keys = keys_in before c; held = (holding_in cfg.namespaces before c).held }
+    life = record {
+      epoch = e;
+      list = list_in before c;
+      keys = keys_in before c;
+      held = (holding_in cfg.namespaces before c).held;
+    }
 
     lives : life_in cfg.namespaces before c ≡ Some life
-    lives = ap (option_map (λ (x : List ℕ). record { epoch = x; list = list_in before c; keys = keys_in before c; held = (holding_in cfg.namespaces before c).held })) opened
+    lives = ap (option_map (λ (x : List ℕ). record {
+      epoch = x;
+      list = list_in before c;
+      keys = keys_in before c;
+      held = (holding_in cfg.namespaces before c).held;
+    })) opened
 
     short : length (list_in before c) ≤ max_u64
     short =
-        let within : length (list_in before c) ≤ last_offset = subst (λ (o : Option Life). IfSome o (λ l. length l.list ≤ last_offset)) lives (fits cfg before gained c) in
+        let within : length (list_in before c) ≤ last_offset =
+        subst (λ (o : Option Life). IfSome o (λ l. length l.list ≤ last_offset)) lives (fits cfg before gained c) in
         omega arith
 
     position : IsPosition (record { epoch = e; offset = length (list_in before c) })
     position = record {
-      epoch = among-said e (epochs_in before c) (opened-said c before said) (subst (WasOpened before c) lives (was_opened cfg.namespaces before c));
+      epoch = among-said e (epochs_in before c) (opened-said c before said)
+          (subst (WasOpened before c) lives (was_opened cfg.namespaces before c));
       offset = short;
     }
 

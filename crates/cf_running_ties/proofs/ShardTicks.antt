@@ -1,5 +1,7 @@
--- The entries of a tick may be gained one after another: each channel has one at most, and its stream still stands then.
-use Rattle.std.proofs.Common.{◌≡◌, ℕ, List, [], ◌∷◌, ◌++◌, Bool, true, false, cond, is_some, Option, Some, None, refl, sym, ap, ◌∙◌, subst, map, T}
+-- The entries of a tick may be gained one after another: each channel has one at most, and its stream still stands
+-- then.
+use Rattle.std.proofs.Common.{◌≡◌, ℕ, List, [], ◌∷◌, ◌++◌, Bool, true, false, cond, is_some, Option, Some, None, refl}
+use Rattle.std.proofs.Common.{sym, ap, ◌∙◌, subst, map, T}
 use Rattle.std.specs.Prelude.{◌&&◌}
 use Rattle.std.specs.FinMap as fin
 use Rattle.std.specs.FinMap.Entries.{below_all, is_sorted}
@@ -59,19 +61,24 @@ find_below : (q : List ℕ) (es : Entries) → T (below_all (slice_cmp nat_cmp) 
 find_below q [] h = refl
 find_below q (e ∷ es) h =
     let rest : Entries = es in
-    ap (λ b. cond b (Some e.1) (find q rest)) (less (slice_cmp nat_cmp q e.0) (first (is_lt (slice_cmp nat_cmp q e.0)) (below_all (slice_cmp nat_cmp) q es) h))
+    ap (λ b. cond b (Some e.1) (find q rest)) (less (slice_cmp nat_cmp q e.0)
+    (first (is_lt (slice_cmp nat_cmp q e.0)) (below_all (slice_cmp nat_cmp) q es) h))
     ∙ find_below q es (second (is_lt (slice_cmp nat_cmp q e.0)) (below_all (slice_cmp nat_cmp) q es) h)
 
 sorted_apart : (es : Entries) → T (is_sorted (slice_cmp nat_cmp) es) → Apart es
 sorted_apart [] h = tt
-sorted_apart (e ∷ es) h =
-    (find_below e.0 es (first (below_all (slice_cmp nat_cmp) e.0 es) (is_sorted (slice_cmp nat_cmp) es) h), sorted_apart es (second (below_all (slice_cmp nat_cmp) e.0 es) (is_sorted (slice_cmp nat_cmp) es) h))
+sorted_apart (e ∷ es) h = (
+  find_below e.0 es (first (below_all (slice_cmp nat_cmp) e.0 es) (is_sorted (slice_cmp nat_cmp) es) h),
+  sorted_apart es (second (below_all (slice_cmp nat_cmp) e.0 es) (is_sorted (slice_cmp nat_cmp) es) h),
+)
 
 -- what is not in a list is none of its keys
-not_first : (q : List ℕ) (e : List ℕ × Shown) (es : Entries) → find q (e ∷ es) ≡ None → (bytes_eq e.0 q ≡ false) × (find q es ≡ None)
+not_first : (q : List ℕ) (e : List ℕ × Shown) (es : Entries) → find q (e ∷ es) ≡ None → (bytes_eq e.0 q ≡ false)
+    × (find q es ≡ None)
 not_first q e es h = by_key (bytes_eq e.0 q) (ap (λ b. cond b (Some e.1) (find q es)) (same_key e.0 q) ∙ h) refl
   where
-    by_key : (b : Bool) → cond b (Some e.1) (find q es) ≡ None → bytes_eq e.0 q ≡ b → (bytes_eq e.0 q ≡ false) × (find q es ≡ None)
+    by_key : (b : Bool) → cond b (Some e.1) (find q es) ≡ None → bytes_eq e.0 q ≡ b → (bytes_eq e.0 q ≡ false)
+        × (find q es ≡ None)
     by_key true k i = absurd (cc)
     by_key false k i = (i, k)
 
@@ -81,7 +88,8 @@ abbrev Each : (List ℕ → Shown → Type 0) → Entries → Type 0
 Each P [] = Unit {0}
 Each P (e ∷ es) = P e.0 e.1 × Each P es
 
-each-more : (P Q : List ℕ → Shown → Type 0) (es : Entries) → ((q : List ℕ) (s : Shown) → P q s → Q q s) → Each P es → Each Q es
+each-more : (P Q : List ℕ → Shown → Type 0) (es : Entries) → ((q : List ℕ) (s : Shown) → P q s → Q q s) → Each P es
+    → Each Q es
 each-more P Q [] f h = tt
 each-more P Q (e ∷ es) f h = (f e.0 e.1 h.0, each-more P Q es f h.1)
 
@@ -96,7 +104,8 @@ found (e ∷ es) h = (
   where
     by_key : (q : List ℕ) (s : Shown) → find q es ≡ Some s → (b : Bool) → bytes_eq e.0 q ≡ b → find q (e ∷ es) ≡ Some s
     by_key q s k true i =
-        absurd (let same : e.0 ≡ q = (bytes_eq-Decides e.0 q).0 i in let no : Some s ≡ None = sym k ∙ ap (λ z. find z es) (sym same) ∙ h.0 in cc)
+        absurd (let same : e.0 ≡ q = (bytes_eq-Decides e.0 q).0 i in let no : Some s ≡ None = sym k
+        ∙ ap (λ z. find z es) (sym same) ∙ h.0 in cc)
     by_key q s k false i = ap (λ b. cond b (Some e.1) (find q es)) (sym (same_key e.0 q) ∙ i) ∙ k
 
 -- ---- one entry after another
@@ -106,42 +115,57 @@ module _ (cfg : Config) where
   Stands log q s = is_some (life_in cfg.namespaces log q) ≡ true
 
   -- an entry of another channel
-  due_elsewhere : (log : List Entry) (c : List ℕ) (d : Due) (q : List ℕ) → bytes_eq c q ≡ false → life_in cfg.namespaces (log ++ due_entry c d ∷ []) q ≡ life_in cfg.namespaces log q
-  due_elsewhere log c ToForget q h = life-more cfg.namespaces log (Forget c) q ∙ ap (λ b. cond b None (life_in cfg.namespaces log q)) h
+  due_elsewhere : (log : List Entry) (c : List ℕ) (d : Due) (q : List ℕ) → bytes_eq c q ≡ false
+      → life_in cfg.namespaces (log ++ due_entry c d ∷ []) q ≡ life_in cfg.namespaces log q
+  due_elsewhere log c ToForget q h =
+      life-more cfg.namespaces log (Forget c) q ∙ ap (λ b. cond b None (life_in cfg.namespaces log q)) h
   due_elsewhere log c ToEmpty q h =
-      life-more cfg.namespaces log (Trim c 0) q ∙ ap (λ b. cond b (option_map (kept_newest 0) (life_in cfg.namespaces log q)) (life_in cfg.namespaces log q)) h
+      life-more cfg.namespaces log (Trim c 0) q ∙ ap
+      (λ b. cond b (option_map (kept_newest 0) (life_in cfg.namespaces log q)) (life_in cfg.namespaces log q)) h
 
-  still_stand : (log : List Entry) (c : List ℕ) (d : Due) (es : Entries) → find c es ≡ None → Each (Stands log) es → Each (Stands (log ++ due_entry c d ∷ [])) es
+  still_stand : (log : List Entry) (c : List ℕ) (d : Due) (es : Entries) → find c es ≡ None → Each (Stands log) es
+      → Each (Stands (log ++ due_entry c d ∷ [])) es
   still_stand log c d [] n h = tt
   still_stand log c d (e ∷ es) n h =
-      let k = not_first c e es n in
-      (ap (λ (o : Option Life). is_some o) (due_elsewhere log c d e.0 (other c e.0 k.0)) ∙ h.0, still_stand log c d es k.1 h.1)
+      let k = not_first c e es n in (
+        ap (λ (o : Option Life). is_some o) (due_elsewhere log c d e.0 (other c e.0 k.0)) ∙ h.0,
+        still_stand log c d es k.1 h.1,
+      )
     where
       other : (c q : List ℕ) → bytes_eq q c ≡ false → bytes_eq c q ≡ false
       other c q i = by_bool (bytes_eq c q) refl
         where
           by_bool : (b : Bool) → bytes_eq c q ≡ b → b ≡ false
           by_bool false j = refl
-          by_bool true j = absurd (let same : c ≡ q = (bytes_eq-Decides c q).0 j in let no : true ≡ false = sym ((bytes_eq-Decides q c).1 (sym same)) ∙ i in cc)
+          by_bool true j =
+              absurd (let same : c ≡ q = (bytes_eq-Decides c q).0 j in let no : true
+              ≡ false = sym ((bytes_eq-Decides q c).1 (sym same)) ∙ i in cc)
 
   abbrev entries : ℕ → NamespaceTable → Entries → List Entry
   entries now t es = due_entries (due_channels now t es)
 
-  all-may : (now : ℕ) (t : NamespaceTable) (es : Entries) (log : List Entry) → Apart es → Each (Stands log) es → MayAll cfg log (entries now t es)
+  all-may : (now : ℕ) (t : NamespaceTable) (es : Entries) (log : List Entry) → Apart es → Each (Stands log) es
+      → MayAll cfg log (entries now t es)
   all-may now t [] log h k = tt
   all-may now t (e ∷ es) log h k =
-      by_due (due_of now (seconds_at t e.0) e.1) (all-may now t es log h.1 k.1) (λ d. all-may now t es (log ++ due_entry e.0 d ∷ []) h.1 (still_stand log e.0 d es h.0 k.1))
+      by_due (due_of now (seconds_at t e.0) e.1) (all-may now t es log h.1 k.1)
+      (λ d. all-may now t es (log ++ due_entry e.0 d ∷ []) h.1 (still_stand log e.0 d es h.0 k.1))
     where
-      by_due : (o : Option Due) → MayAll cfg log (entries now t es) → ((d : Due) → MayAll cfg (log ++ due_entry e.0 d ∷ []) (entries now t es))
-          → MayAll cfg log (map (λ (x : List ℕ × Due). due_entry x.0 x.1) (cons_option (option_map (λ d. (e.0, d)) o) (due_channels now t es)))
+      by_due : (o : Option Due) → MayAll cfg log (entries now t es)
+          → ((d : Due) → MayAll cfg (log ++ due_entry e.0 d ∷ []) (entries now t es))
+          → MayAll cfg log (map (λ (x : List ℕ × Due). due_entry x.0 x.1)
+          (cons_option (option_map (λ d. (e.0, d)) o) (due_channels now t es)))
       by_due None a b = a
       by_due (Some ToForget) a b = (k.0, b ToForget)
       by_due (Some ToEmpty) a b = (k.0, b ToEmpty)
 
-  pub ticks : (k : StreamMap) (log : List Entry) → IsState cfg.namespaces k log → (now : ℕ) → MayAll cfg log (entries_of_tick k now)
+  pub ticks : (k : StreamMap) (log : List Entry) → IsState cfg.namespaces k log → (now : ℕ)
+      → MayAll cfg log (entries_of_tick k now)
   ticks k log is now =
-      all-may now k.namespaces (fin.entries k.streams) log (sorted_apart (fin.entries k.streams) (fin.entries_sorted k.streams))
+      all-may now k.namespaces (fin.entries k.streams) log
+      (sorted_apart (fin.entries k.streams) (fin.entries_sorted k.streams))
       (each-more (λ q s. find q (fin.entries k.streams) ≡ Some s) (Stands log) (fin.entries k.streams)
       (λ q s h. some-life cfg k log is q s (life_in cfg.namespaces log q)
-      (subst (λ o. ShowsAt (size_at k.namespaces q) o (life_in cfg.namespaces log q)) (fin.get-entries k.streams q ∙ h) (shows cfg k log is q)))
+      (subst (λ o. ShowsAt (size_at k.namespaces q) o (life_in cfg.namespaces log q)) (fin.get-entries k.streams q ∙ h)
+      (shows cfg k log is q)))
       (found (fin.entries k.streams) (sorted_apart (fin.entries k.streams) (fin.entries_sorted k.streams))))

@@ -14,11 +14,13 @@ use Rattle.cf_session.specs.CommandScripts.{after_lost, after_read, replies, to_
 use Rattle.cf_session.specs.Script.{Ask, Say, Script}
 use Rattle.cf_machine.specs.ClientRequest.{ClientRequest, SentCommand, Subscribe, Unsubscribe, Publish, History}
 use Rattle.cf_running.specs.Server.{AsksShard, Began, Connection, Errs, Free, HasRead, Says, Server, Site, ToFinish}
-use Rattle.cf_running.specs.Server.{ToGiveUp, ToList, ToPublish, ToSay, Work, server_after, can_gain, life_of, lists_of, ran}
+use Rattle.cf_running.specs.Server.{ToGiveUp, ToList, ToPublish, ToSay, Work, server_after, can_gain, life_of, lists_of}
+use Rattle.cf_running.specs.Server.{ran}
 use Rattle.cf_running.specs.Server.{repeats}
 use Rattle.cf_running_ties.specs.Reads.{SaysLater}
 
--- The script goes on with what the worker has in hand; `server_after` is what it does behind the command. What was read is
+-- The script goes on with what the worker has in hand; `server_after` is what it does behind the command. What was read
+-- is
 -- in hand amid a call, before it is answered; so is the reply to a history (`ListsFor`).
 abbrev pub InHand : Lists → Who → (server_after : Script) → Work → Script → Type 0
 InHand lists who server_after Free script = script ≡ server_after
@@ -29,7 +31,8 @@ InHand lists who server_after (ToGiveUp c id code) script =
     (e : ErrorCode) × (code ≡ code_of e) × (script ≡ Ask (Leave c) (after_lost id e server_after))
 InHand lists who server_after (ToPublish c id key d) script =
     (d.info ≡ Some who) × (script ≡ Ask (PublishCall c key d.body who) (replies id server_after))
-InHand lists who server_after (ToList c id limit) script = script ≡ Ask (ListCall c id limit None) (replies id server_after)
+InHand lists who server_after (ToList c id limit) script =
+    script ≡ Ask (ListCall c id limit None) (replies id server_after)
 InHand lists who server_after (ToSay c n) script =
     (id : ℕ) × (outcome : Outcome) × SaysLater lists n (Reply id outcome) × (script ≡ Say id outcome server_after)
 

@@ -6,9 +6,9 @@
 
 mod action;
 mod budget;
+mod command_executor;
 mod kind;
 pub mod laws;
-mod command_executor;
 mod refusal;
 mod refused;
 mod replied;
@@ -20,8 +20,8 @@ mod turn;
 pub use action::{Action, Answer};
 pub use budget::{Budget, cost_of};
 pub use cf_wire::{Desk, TurnEnd, Wire, WireFault};
-pub use kind::CommandKind;
 pub use command_executor::{CommandExecutor, act};
+pub use kind::CommandKind;
 pub use refusal::refusal_of;
 pub use refused::{hub_error, presence_error, stream_error};
 pub use serve::serve_text;

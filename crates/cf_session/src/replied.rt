@@ -63,7 +63,13 @@ pub(crate) fn after_answer(stage: ScriptStage, answer: Answer) -> ScriptStage
 }
 
 /// The begin of a subscription was answered: its read is next.
-fn begun(id: u32, read: String, channel: String, since: Option<Position>, answer: &Answer) -> ScriptStage
+fn begun(
+    id: u32,
+    read: String,
+    channel: String,
+    since: Option<Position>,
+    answer: &Answer,
+) -> ScriptStage
     ensures goes { (t : Tables) (ks : List Command) (who : Option Who)
         → progress_at t ks who result
         ≡ Todo (after_begin id (string_bytes read) (string_bytes channel) since

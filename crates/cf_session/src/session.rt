@@ -222,9 +222,15 @@ impl<'a> Session<'a> {
                 };
                 (ScriptStage::Reading { id, channel }, Some(action))
             }
-            ScriptStage::Finishes { channel } => (ScriptStage::Finishing, Some(Action::Finish { channel })),
+            ScriptStage::Finishes { channel } => (
+                ScriptStage::Finishing,
+                Some(Action::Finish { channel }),
+            ),
             ScriptStage::Loses { id, channel, code } => {
-                (ScriptStage::Losing { id, code }, Some(Action::Leave { channel }))
+                (
+                    ScriptStage::Losing { id, code },
+                    Some(Action::Leave { channel }),
+                )
             }
             waits => (waits, None),
         };

@@ -8,8 +8,8 @@ ghost use Rattle.cf_session.specs.Turn.{CanGoOn, StaysSetUp, DoesAct, Spends, un
 
 use crate::action::Action;
 use crate::budget::{Budget, cost_of};
-use crate::laws::frames_have_streams;
 use crate::command_executor::{CommandExecutor, act};
+use crate::laws::frames_have_streams;
 use crate::session::Session;
 
 /// Hears a text of the client: its script is under way then, and nothing of it is carried out.
@@ -29,7 +29,11 @@ pub fn hear_text(session: &mut Session<'_>, text: &str)
 /// Carries out what is under way, until the session is idle, the node has closed it, or the budget is spent. Whether the session is
 /// idle or closed. Before each action the node is asked whether the session is closed, and a unit has to be left; so a call with
 /// units left does at least one action, or is done.
-pub fn carry_on<N: CommandExecutor>(session: &mut Session<'_>, node: &mut N, budget: &mut Budget) -> bool
+pub fn carry_on<N: CommandExecutor>(
+    session: &mut Session<'_>,
+    node: &mut N,
+    budget: &mut Budget,
+) -> bool
     requires tables { N.namespaces node.old ≡ (tables_of session.old).namespaces }
     requires ready { CanGoOn session.old }
     // Unless memory was refused to the session, its script was gone along.

@@ -16,10 +16,14 @@ use Rattle.cf_shard.specs.Shard.{IsShard, no_streams}
 empty_state : (t : NamespaceTable) → IsState t (no_streams t) []
 empty_state t = record {
   settings = refl;
-  lists = record { at = λ q. subst (λ (o : Option Shown). ShowsAt (size_at t q) o None) (sym (fin.get-empty (slice_cmp nat_cmp) q)) tt };
+  lists = record {
+    at = λ q. subst (λ (o : Option Shown). ShowsAt (size_at t q) o None)
+        (sym (fin.get-empty (slice_cmp nat_cmp) q)) tt;
+  };
 }
 
-pub no_streams_shard : (t : NamespaceTable) (w : TableId) (k : StreamMap) (o : OwnerState) → k ≡ no_streams t → o.word ≡ w → o.log ≡ [] → IsShard t w k o
+pub no_streams_shard : (t : NamespaceTable) (w : TableId) (k : StreamMap) (o : OwnerState) → k ≡ no_streams t
+    → o.word ≡ w → o.log ≡ [] → IsShard t w k o
 no_streams_shard t w k o is named empty =
     subst (λ (k : StreamMap). IsShard t w k o) (sym is) (record {
       named = named;

@@ -12,7 +12,8 @@ use Rattle.cf_protocol.specs.declared.codes.ErrorCode.{ErrorCode}
 use Rattle.cf_protocol.specs.declared.codes.ErrorCode.TheVariants as error
 use Rattle.cf_protocol.specs.Position.{Position}
 use Rattle.cf_stream.specs.FreshEpochs.{Draws, DrawsNone}
-use Rattle.cf_stream.specs.Stream.{Shown, IsRecovery, IsHistory, IsStuck, after_publish, newest_of, repeated_by, used_at}
+use Rattle.cf_stream.specs.Stream.{Shown, IsRecovery, IsHistory, IsStuck, after_publish, newest_of, repeated_by}
+use Rattle.cf_stream.specs.Stream.{used_at}
 use Rattle.cf_stream.specs.Streams.{StreamMap, IsOfAnother, put_at, stood_or_opened, stream_of}
 use Rattle.cf_stream.specs.declared.answer.Recovery.{Recovery}
 use Rattle.cf_presence.specs.Presence.{Channels, clients_of, entered, left, users_of, user_count}

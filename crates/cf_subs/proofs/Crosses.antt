@@ -23,7 +23,8 @@ module _ (R : RattleType) where
   pub Blocks-send : IsSend R → IsSend (Blocks.the_row R)
   Blocks-send s =
       let O = Blocks.the_type R in let all : AllSend (fields O) = (search sendable, tt) in
-      owning_send O all (λ d. blocks-Keyless s d.held) (λ k. quiet (to O) (exits_of k (fields O)) ((struct_send (shape O) all).leaving k))
+      owning_send O all (λ d. blocks-Keyless s d.held)
+      (λ k. quiet (to O) (exits_of k (fields O)) ((struct_send (shape O) all).leaving k))
 
   pub Blocks-sync : IsSync R → IsSync (Blocks.the_row R)
   Blocks-sync y = let O = Blocks.the_type R in record {

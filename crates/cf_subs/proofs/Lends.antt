@@ -29,4 +29,6 @@ module _ {M : Type 1} {𝓤 : Ura M} (𝓛 : Logic 𝓤) (l : Lft) (R : RattleTy
 
   pub Lends-blocks : (hs : List (Held R.Denot)) → Lends 𝓛 (blocks_own R hs) (blocks_lent R hs) l
   Lends-blocks [] = Lends-nothing 𝓛 ftrue l
-  Lends-blocks (h ∷ hs) = Lends-both 𝓛 (block_owns R h) (blocks_own R hs) (lent_at R h.at h.value) (blocks_lent R hs) l (Lends-block h) (Lends-blocks hs)
+  Lends-blocks (h ∷ hs) =
+      Lends-both 𝓛 (block_owns R h) (blocks_own R hs) (lent_at R h.at h.value) (blocks_lent R hs) l (Lends-block h)
+      (Lends-blocks hs)

@@ -1,5 +1,6 @@
 -- The held blocks, cut at the one that a pointer leads to.
-use Rattle.std.proofs.Common.{◌≡◌, true, false, cond, List, [], ◌∷◌, ◌++◌, Some, None, refl, sym, ap, ◌∙◌, subst, append-nil}
+use Rattle.std.proofs.Common.{◌≡◌, true, false, cond, List, [], ◌∷◌, ◌++◌, Some, None, refl, sym, ap, ◌∙◌, subst}
+use Rattle.std.proofs.Common.{append-nil}
 use Rattle.std.specs.Prelude.{IsSome}
 use Rattle.std.specs.List.{AllByRecursion, IsDistinct}
 use denote.RawPtr.{Ptr}
@@ -24,21 +25,31 @@ module _ {T : Type 0} where
 
   pub cut_at : (hs : List (Held T)) (p : Ptr) → IsSome (found hs p) → Cut hs p
   cut_at [] p is = cc
-  cut_at (h ∷ hs) p is = (elim (same_ptr h.at p) as (λ y. same_ptr h.at p ≡ y → IsSome (cond y (Some h.value) (found hs p)) → Cut (h ∷ hs) p) [
-    | true ↦ λ e _. record { before = []; here = h; after = hs; cut = refl; place = same_ptr_eq h.at p e; value = ap (λ y. cond y (Some h.value) (found hs p)) e }
-    | false ↦ λ e is'. let on = cut_at hs p is' in record {
-      before = h ∷ on.before;
-      here = on.here;
-      after = on.after;
-      cut = ap (λ l. h ∷ l) on.cut;
-      place = on.place;
-      value = ap (λ y. cond y (Some h.value) (found hs p)) e ∙ on.value;
-    }
-  ]) refl is
+  cut_at (h ∷ hs) p is =
+      (elim (same_ptr h.at p) as (λ y. same_ptr h.at p ≡ y → IsSome (cond y (Some h.value) (found hs p))
+      → Cut (h ∷ hs) p) [
+        | true ↦ λ e _. record {
+          before = [];
+          here = h;
+          after = hs;
+          cut = refl;
+          place = same_ptr_eq h.at p e;
+          value = ap (λ y. cond y (Some h.value) (found hs p)) e;
+        }
+        | false ↦ λ e is'. let on = cut_at hs p is' in record {
+          before = h ∷ on.before;
+          here = on.here;
+          after = on.after;
+          cut = ap (λ l. h ∷ l) on.cut;
+          place = on.place;
+          value = ap (λ y. cond y (Some h.value) (found hs p)) e ∙ on.value;
+        }
+      ]) refl is
 
   pub fresh_found : (p : Ptr) (hs : List (Held T)) → IsFresh p (places hs) → found hs p ≡ None
   fresh_found p [] f = refl
-  fresh_found p (h ∷ hs) f = ap (λ y. cond y (Some h.value) (found hs p)) (same_ptr_symm h.at p ∙ f.0) ∙ fresh_found p hs f.1
+  fresh_found p (h ∷ hs) f =
+      ap (λ y. cond y (Some h.value) (found hs p)) (same_ptr_symm h.at p ∙ f.0) ∙ fresh_found p hs f.1
 
   abbrev Elsewhere : Ptr → List (Held T) → Type 0
   Elsewhere p = AllByRecursion (λ h. same_ptr p h.at ≡ false)
@@ -49,7 +60,8 @@ module _ {T : Type 0} where
 
   put_elsewhere : (p : Ptr) (v : T) (hs : List (Held T)) → Elsewhere p hs → put_at hs p v ≡ hs
   put_elsewhere p v [] f = refl
-  put_elsewhere p v (h ∷ hs) f = λ i. held h.at (cond ((same_ptr_symm h.at p ∙ f.0) i) v h.value) ∷ put_elsewhere p v hs f.1 i
+  put_elsewhere p v (h ∷ hs) f =
+      λ i. held h.at (cond ((same_ptr_symm h.at p ∙ f.0) i) v h.value) ∷ put_elsewhere p v hs f.1 i
 
   without_elsewhere : (p : Ptr) (hs : List (Held T)) → Elsewhere p hs → without hs p ≡ hs
   without_elsewhere p [] f = refl
@@ -60,14 +72,18 @@ module _ {T : Type 0} where
     others = distinct_differs (λ (k : Held T). k.at) same_ptr same_ptr_symm xs n ys d
 
     put_cut' : (us : List (Held T)) (v : T) → Elsewhere n.at us → put_at (us ++ n ∷ ys) n.at v ≡ us ++ held n.at v ∷ ys
-    put_cut' [] v f = λ i. held n.at (cond (same_ptr_refl n.at i) v n.value) ∷ put_elsewhere n.at v ys (all_right (λ (h : Held T). same_ptr n.at h.at ≡ false) xs ys others) i
+    put_cut' [] v f =
+        λ i. held n.at (cond (same_ptr_refl n.at i) v n.value)
+        ∷ put_elsewhere n.at v ys (all_right (λ (h : Held T). same_ptr n.at h.at ≡ false) xs ys others) i
     put_cut' (u ∷ us) v f = λ i. held u.at (cond ((same_ptr_symm u.at n.at ∙ f.0) i) v u.value) ∷ put_cut' us v f.1 i
 
     pub put_cut : (v : T) → put_at (xs ++ n ∷ ys) n.at v ≡ xs ++ held n.at v ∷ ys
     put_cut v = put_cut' xs v (all_left (λ (h : Held T). same_ptr n.at h.at ≡ false) xs ys others)
 
     without_cut' : (us : List (Held T)) → Elsewhere n.at us → without (us ++ n ∷ ys) n.at ≡ us ++ ys
-    without_cut' [] f = rw (same_ptr_refl n.at) (without_elsewhere n.at ys (all_right (λ (h : Held T). same_ptr n.at h.at ≡ false) xs ys others))
+    without_cut' [] f =
+        rw (same_ptr_refl n.at) (without_elsewhere n.at ys
+        (all_right (λ (h : Held T). same_ptr n.at h.at ≡ false) xs ys others))
     without_cut' (u ∷ us) f = rw (same_ptr_symm u.at n.at ∙ f.0) (ap (λ l. u ∷ l) (without_cut' us f.1))
 
     pub without_cut : without (xs ++ n ∷ ys) n.at ≡ xs ++ ys
@@ -83,6 +99,10 @@ module _ {T : Type 0} where
     pub apart_put : (v : T) → IsApart (places (xs ++ held n.at v ∷ ys))
     apart_put v = subst IsApart (sym (places_put xs v)) d
 
-  pub apart_held : (p : Ptr) (v : T) (hs : List (Held T)) → IsFresh p (places hs) → IsApart (places hs) → IsApart (places (hs ++ held p v ∷ []))
+  pub apart_held : (p : Ptr) (v : T) (hs : List (Held T)) → IsFresh p (places hs) → IsApart (places hs)
+      → IsApart (places (hs ++ held p v ∷ []))
   unfolding IsDistinct
-  apart_held p v hs f d = distinct_with (λ (k : Held T). k.at) same_ptr same_ptr_symm hs (held p v) [] (subst (Elsewhere p) (sym (append-nil hs)) (elsewhere p hs f)) (subst (λ l. IsApart (places l)) (sym (append-nil hs)) d)
+  apart_held p v hs f d =
+      distinct_with (λ (k : Held T). k.at) same_ptr same_ptr_symm hs (held p v) []
+      (subst (Elsewhere p) (sym (append-nil hs)) (elsewhere p hs f))
+      (subst (λ l. IsApart (places l)) (sym (append-nil hs)) d)

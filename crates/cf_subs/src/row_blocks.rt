@@ -5,8 +5,8 @@ ghost use Rattle.cf_subs.specs.Threads.{Changes, IsHeld};
 ghost use Rattle.cf_subs.specs.Seats.{AreLinked, IsUnlinked, LinksIn, SameLists, before_in_channel, after_in_channel, before_in_session, after_in_session};
 
 use crate::blocks::{At, Blocks};
-use crate::loose::Loose;
 use crate::linked_row::LinkedRow;
+use crate::loose::Loose;
 use crate::table::Row;
 use std::alloc::Global;
 

@@ -5,7 +5,7 @@ ghost use Rattle.cf_subscribers.specs.Follows.{with_follow};
 ghost use Rattle.cf_subscribers.specs.Names.{AreNumbered, AreUsed, named, number_at};
 
 use crate::names::Names;
-use cf_subs::{SubTableError, SubTable};
+use cf_subs::{SubTable, SubTableError};
 use std::alloc::Global;
 
 /// Adds the first row of a channel, under a new number.

@@ -6,7 +6,7 @@ ghost use Rattle.cf_model.specs.Streams.{most_rows};
 use crate::named_rows::{add_first_row, remove_row};
 use crate::names::Names;
 use crate::walk::FollowerWalk;
-use cf_subs::{SubTableError, SubTable};
+use cf_subs::{SubTable, SubTableError};
 use std::alloc::Global;
 use std::marker::Model;
 

@@ -1,5 +1,7 @@
 -- How events make a turn, and how turns join.
-use Rattle.std.proofs.Common.{◌≡◌, ◌∙◌, ℕ, ◌+◌, ◌-◌, length, ◌≤◌, ◌<◌, List, [], ◌∷◌, ◌++◌, Bool, if◌then◌else◌, Option, None, Some, Result, Ok, Err, OnOk, IfErr, true, false, ◌⊎◌, inl, inr, refl, sym, ap, subst, arith}
+use Rattle.std.proofs.Common.{◌≡◌, ◌∙◌, ℕ, ◌+◌, ◌-◌, length, ◌≤◌, ◌<◌, List, [], ◌∷◌, ◌++◌, Bool, if◌then◌else◌, Option}
+use Rattle.std.proofs.Common.{None, Some, Result, Ok, Err, OnOk, IfErr, true, false, ◌⊎◌, inl, inr, refl, sym, ap}
+use Rattle.std.proofs.Common.{subst, arith}
 use Rattle.tungstenite.specs.Connection.{write_step, close_step}
 use Rattle.tungstenite.specs.Content.{text}
 use Rattle.tungstenite.specs.Failure.{IsIo, WriteFails}
@@ -11,8 +13,13 @@ use Rattle.websocket.specs.declared.protocol.frame.coding.CloseCode.{CloseCode}
 use Rattle.cf_queue.specs.declared.queue.Out.{Out}
 use Rattle.cf_queue.specs.declared.queue.Out.TheVariants.{Text, Close}
 use Rattle.cf_wire.specs.CloseFrame.{frame_of}
-use Rattle.cf_wire.specs.Stages.{WireState, is_open, is_over, waits_by, end_by, stage_after, close_in, code_of_fault, settled, Halts, Stops}
-use Rattle.cf_wire.specs.Turn.{Event, heard, passed, ended, rejected, failed, none, sent, refused, flushed, tried, reads, moves, bytes, bytes_before, is_stop, most_reads, most_bytes, IsEmptied, Rests, IsUsedUp, EndFits, Mark, going, emptied, over, Fits, is_bad, is_signal, code_in, bad_message, Puts, Fails, Settles, Tells, TellsIf, FlushLeaves, Place, place, DeskDoes, WireDoes, Did, Part, Turns, mark_of, read_in}
+use Rattle.cf_wire.specs.Stages.{WireState, is_open, is_over, waits_by, end_by, stage_after, close_in, code_of_fault}
+use Rattle.cf_wire.specs.Stages.{settled, Halts, Stops}
+use Rattle.cf_wire.specs.Turn.{Event, heard, passed, ended, rejected, failed, none, sent, refused, flushed, tried}
+use Rattle.cf_wire.specs.Turn.{reads, moves, bytes, bytes_before, is_stop, most_reads, most_bytes, IsEmptied, Rests}
+use Rattle.cf_wire.specs.Turn.{IsUsedUp, EndFits, Mark, going, emptied, over, Fits, is_bad, is_signal, code_in}
+use Rattle.cf_wire.specs.Turn.{bad_message, Puts, Fails, Settles, Tells, TellsIf, FlushLeaves, Place, place, DeskDoes}
+use Rattle.cf_wire.specs.Turn.{WireDoes, Did, Part, Turns, mark_of, read_in}
 use Rattle.cf_wire.specs.declared.end.Stage.{Stage}
 use Rattle.cf_wire.specs.declared.end.Stage.TheVariants.{Open, Unflushed, Over}
 use Rattle.cf_wire.specs.declared.end.WireEnd.{WireEnd}
@@ -98,7 +105,8 @@ before_append (refused o x ∷ es) fs = before_append es fs
 before_append (flushed ∷ es) fs = before_append es fs
 before_append (tried x ∷ es) fs = before_append es fs
 
-light_then : (left rest : ℕ) (es fs : List Event) → rest ≡ left - bytes fs → (reads fs ≡ 0) ⊎ (bytes_before fs < left) → (reads es ≡ 0) ⊎ (bytes_before es < rest)
+light_then : (left rest : ℕ) (es fs : List Event) → rest ≡ left - bytes fs → (reads fs ≡ 0) ⊎ (bytes_before fs < left)
+    → (reads es ≡ 0) ⊎ (bytes_before es < rest)
     → (reads (es ++ fs) ≡ 0) ⊎ (bytes_before (es ++ fs) < left)
 light_then left rest es fs is (inl a) (inl b) = inl (omega (arith, reads_append es fs, a, b))
 light_then left rest es fs is (inr a) (inl b) = inr (omega (arith, before_quiet es fs b, a))
@@ -177,7 +185,8 @@ fits_append going es fs b h = tt
 fits_append emptied es fs b h = emptied_append es fs h
 fits_append (over end) es fs b h = end_append end es fs b h
 
-fits_stop : (end : TurnEnd) (stage : Stage) (e : Event) (es : List Event) (b : Bool) → Halts end stage → is_stop e ≡ true → EndFits end (e ∷ es) b
+fits_stop : (end : TurnEnd) (stage : Stage) (e : Event) (es : List Event) (b : Bool) → Halts end stage
+    → is_stop e ≡ true → EndFits end (e ∷ es) b
 fits_stop turn.Idle stage e es b halts h = rests_stop e es b h
 fits_stop turn.More stage e es b halts h = absurd halts
 fits_stop (turn.Closed code) stage e es b halts h = tt
@@ -185,32 +194,40 @@ fits_stop turn.StreamFault stage e es b halts h = tt
 fits_stop turn.Memory stage e es b halts h = tt
 
 -- a stage that is settled is opened or over
-never_settled : (close : Option ℕ) (stage : Stage) → stage ≡ settled close → is_over stage ≡ false → is_open stage ≡ false → ⊥
+never_settled : (close : Option ℕ) (stage : Stage) → stage ≡ settled close → is_over stage ≡ false
+    → is_open stage ≡ false → ⊥
 never_settled None stage is spent opened = absurd (cc (sym (ap is_open is), opened))
 never_settled (Some code) stage is spent opened = absurd (cc (sym (ap is_over is), spent))
 
 -- so what settled was not idle
-fits_settled : (end : TurnEnd) (close : Option ℕ) (stage : Stage) (e : Event) (es : List Event) (b : Bool) → stage ≡ settled close → Stops end stage → EndFits end (e ∷ es) b
+fits_settled : (end : TurnEnd) (close : Option ℕ) (stage : Stage) (e : Event) (es : List Event) (b : Bool)
+    → stage ≡ settled close → Stops end stage → EndFits end (e ∷ es) b
 fits_settled turn.Idle close stage e es b is h = absurd (never_settled close stage is h.0 h.1)
 fits_settled turn.More close stage e es b is h = absurd h.0
 fits_settled (turn.Closed code) close stage e es b is h = tt
 fits_settled turn.StreamFault close stage e es b is h = tt
 fits_settled turn.Memory close stage e es b is h = tt
 
-closed_if : (b : Bool) (stage : Stage) (end : WireEnd) → is_open stage ≡ false → is_open (if b then stage else Over end) ≡ false
+closed_if : (b : Bool) (stage : Stage) (end : WireEnd) → is_open stage ≡ false
+    → is_open (if b then stage else Over end) ≡ false
 closed_if true stage end h = h
 closed_if false stage end h = refl
 
 -- an error leaves no wire open that was to wait for the stream
-open_not_after : (stage : Stage) (e : Error) (close : Option ℕ) → stage ≡ Open → stage ≡ stage_after e (Unflushed close) → ⊥
-open_not_after stage e close a b = absurd (cc (sym (ap is_open a) ∙ ap is_open b, closed_if (waits_by e) (Unflushed close) (end_by e) refl))
+open_not_after : (stage : Stage) (e : Error) (close : Option ℕ) → stage ≡ Open → stage ≡ stage_after e (Unflushed close)
+    → ⊥
+open_not_after stage e close a b =
+    absurd (cc (sym (ap is_open a) ∙ ap is_open b, closed_if (waits_by e) (Unflushed close) (end_by e) refl))
 
 -- ---- what the socket answered
 
 module _ {S : Type 0} where
-  pub settles : (contents : S → Option (List ℕ)) (old mid new : Socket S) (out : Out) (stage : Stage) (answer : Result (Unit {0}) Error)
-      → OnOk answer (Puts contents old out mid) → OnOk answer (mid.output ≡ []) → IfErr answer (Fails contents old out mid)
-      → new ≡ mid → OnOk answer (stage ≡ settled (close_in out)) → IfErr answer (λ e. stage ≡ stage_after e (Unflushed (close_in out)))
+  pub settles : (contents : S → Option (List ℕ)) (old mid new : Socket S) (out : Out) (stage : Stage)
+      (answer : Result (Unit {0}) Error)
+      → OnOk answer (Puts contents old out mid) → OnOk answer (mid.output ≡ [])
+      → IfErr answer (Fails contents old out mid)
+      → new ≡ mid → OnOk answer (stage ≡ settled (close_in out))
+      → IfErr answer (λ e. stage ≡ stage_after e (Unflushed (close_in out)))
       → Settles contents old out new stage
   settles contents old mid new out stage (Ok u) puts empty fails same ok err =
       inl (subst (Puts contents old out) (sym same) puts, ap (λ (s : Socket S). s.output) same ∙ empty, ok)
@@ -218,34 +235,45 @@ module _ {S : Type 0} where
       let P : Socket S → Type 0 = λ x. Fails contents old out x e in
       inr (e, (subst P (sym same) fails, err))
 
-  pub settles_text : (contents : S → Option (List ℕ)) (old mid new : Socket S) (s : List ℕ) (m : Message) (stage : Stage) (answer : Result (Unit {0}) Error)
+  pub settles_text : (contents : S → Option (List ℕ)) (old mid new : Socket S) (s : List ℕ) (m : Message)
+      (stage : Stage) (answer : Result (Unit {0}) Error)
       → content_of m ≡ text s
       → OnOk answer (Writes contents old mid (write_step old.conn (content_of m))) → OnOk answer (mid.output ≡ [])
-      → IfErr answer (WriteFails (write_step old.conn (content_of m))) → IfErr answer (λ e. e ≡ WriteBufferFull → mid ≡ old)
-      → IfErr answer (λ e. IsIo e → Writes contents old mid (write_step old.conn (content_of m))) → IfErr answer (λ e. e ≡ OutOfMemory → mid ≡ old)
+      → IfErr answer (WriteFails (write_step old.conn (content_of m)))
+      → IfErr answer (λ e. e ≡ WriteBufferFull → mid ≡ old)
+      → IfErr answer (λ e. IsIo e → Writes contents old mid (write_step old.conn (content_of m)))
+      → IfErr answer (λ e. e ≡ OutOfMemory → mid ≡ old)
       → new ≡ mid → OnOk answer (stage ≡ settled None) → IfErr answer (λ e. stage ≡ stage_after e (Unflushed None))
       → Settles contents old (Text s) new stage
   settles_text contents old mid new s m stage (Ok u) is puts empty fault full io memory same ok err =
       settles contents old mid new (Text s) stage (Ok u) (rw is at puts) empty fault same ok err
   settles_text contents old mid new s m stage (Err e) is puts empty fault full io memory same ok err =
-      settles contents old mid new (Text s) stage (Err e) puts empty (rw is at fault, (λ (h : IsIo e). rw is at (io h)), (λ _. full), memory) same ok err
+      settles contents old mid new (Text s) stage (Err e) puts empty
+      (rw is at fault, (λ (h : IsIo e). rw is at (io h)), (λ _. full), memory) same ok err
 
-  pub settles_close : (contents : S → Option (List ℕ)) (old mid new : Socket S) (code : ℕ) (f : Option (CloseCode × List ℕ)) (stage : Stage) (answer : Result (Unit {0}) Error)
+  pub settles_close : (contents : S → Option (List ℕ)) (old mid new : Socket S) (code : ℕ)
+      (f : Option (CloseCode × List ℕ)) (stage : Stage) (answer : Result (Unit {0}) Error)
       → f ≡ frame_of code
       → OnOk answer (Writes contents old mid (close_step old.conn f)) → OnOk answer (mid.output ≡ [])
-      → IfErr answer (WriteFails (close_step old.conn f)) → IfErr answer (λ e. IsIo e → Writes contents old mid (close_step old.conn f))
+      → IfErr answer (WriteFails (close_step old.conn f))
+      → IfErr answer (λ e. IsIo e → Writes contents old mid (close_step old.conn f))
       → IfErr answer (λ e. e ≡ OutOfMemory → mid ≡ old)
-      → new ≡ mid → OnOk answer (stage ≡ settled (Some code)) → IfErr answer (λ e. stage ≡ stage_after e (Unflushed (Some code)))
+      → new ≡ mid → OnOk answer (stage ≡ settled (Some code))
+      → IfErr answer (λ e. stage ≡ stage_after e (Unflushed (Some code)))
       → Settles contents old (Close code) new stage
   settles_close contents old mid new code f stage (Ok u) is puts empty fault io memory same ok err =
       settles contents old mid new (Close code) stage (Ok u) (rw is at puts) empty fault same ok err
   settles_close contents old mid new code f stage (Err e) is puts empty fault io memory same ok err =
-      settles contents old mid new (Close code) stage (Err e) puts empty (rw is at fault, (λ (h : IsIo e). rw is at (io h)), (λ (h : Some code ≡ None). absurd (cc h)), memory) same ok err
+      settles contents old mid new (Close code) stage (Err e) puts empty
+      (rw is at fault, (λ (h : IsIo e). rw is at (io h)), (λ (h : Some code ≡ None). absurd (cc h)), memory) same ok
+      err
 
-  pub tells_close : (contents : S → Option (List ℕ)) (old new : Socket S) (code : ℕ) (f : Option (CloseCode × List ℕ)) (answer : Result (Unit {0}) Error)
+  pub tells_close : (contents : S → Option (List ℕ)) (old new : Socket S) (code : ℕ) (f : Option (CloseCode × List ℕ))
+      (answer : Result (Unit {0}) Error)
       → f ≡ frame_of code
       → OnOk answer (Writes contents old new (close_step old.conn f)) → OnOk answer (new.output ≡ [])
-      → IfErr answer (WriteFails (close_step old.conn f)) → IfErr answer (λ e. IsIo e → Writes contents old new (close_step old.conn f))
+      → IfErr answer (WriteFails (close_step old.conn f))
+      → IfErr answer (λ e. IsIo e → Writes contents old new (close_step old.conn f))
       → IfErr answer (λ e. e ≡ OutOfMemory → new ≡ old)
       → Tells contents old code new
   tells_close contents old new code f (Ok u) is puts empty fault io memory = inl (rw is at puts, empty)
@@ -261,23 +289,46 @@ frame_same a b x y h i = ap (λ c. framed c x) h ∙ ap (framed b) i
 
 -- ---- turns
 
-module _ {D S : Type 0} (hears : D → List ℕ → D → Type 0) (gives : D → Option Out → D → Type 0) (ready : D → Bool) (remaining contents : S → Option (List ℕ)) where
-  did_then : (es fs : List Event) (p q r : Place D S) → Did hears gives ready remaining contents fs p q → Did hears gives ready remaining contents es q r → Did hears gives ready remaining contents (es ++ fs) p r
-  did_then [] fs p q r a b = let P : Place D S → Type 0 = λ x. Did hears gives ready remaining contents fs p x in subst P (sym b) a
+module _ {D S : Type 0} (hears : D → List ℕ → D → Type 0) (gives : D → Option Out → D → Type 0) (ready : D → Bool)
+    (remaining contents : S → Option (List ℕ)) where
+  did_then : (es fs : List Event) (p q r : Place D S) → Did hears gives ready remaining contents fs p q
+      → Did hears gives ready remaining contents es q r → Did hears gives ready remaining contents (es ++ fs) p r
+  did_then [] fs p q r a b = let P : Place D S → Type 0 = λ x. Did hears gives ready remaining contents fs p x in
+      subst P (sym b) a
   did_then (e ∷ es) fs p q r a b = (b.0, did_then es fs p q b.0 a b.1, b.2, b.3)
 
   pub turns_none : (left : ℕ) (p : Place D S) → Part hears gives ready remaining contents 0 0 left left going p p
-  turns_none left p = record { events = []; did = refl; busy = omega arith; bound = omega arith; spends = omega arith; light = inl refl; fits = tt }
+  turns_none left p =
+      record {
+        events = [];
+        did = refl;
+        busy = omega arith;
+        bound = omega arith;
+        spends = omega arith;
+        light = inl refl;
+        fits = tt;
+      }
 
   pub turns_one : (e : Event) (low high left rest : ℕ) (mark : Mark) (p q : Place D S)
-      → DeskDoes hears gives ready remaining contents e p.desk q.desk → WireDoes hears gives ready remaining contents e p.wire q.wire
-      → low ≤ moves (e ∷ []) → reads (e ∷ []) ≤ high → rest ≡ left - bytes (e ∷ []) → (reads (e ∷ []) ≡ 0) ⊎ (bytes_before (e ∷ []) < left) → Fits mark (e ∷ []) (ready q.desk)
+      → DeskDoes hears gives ready remaining contents e p.desk q.desk
+      → WireDoes hears gives ready remaining contents e p.wire q.wire
+      → low ≤ moves (e ∷ []) → reads (e ∷ []) ≤ high → rest ≡ left - bytes (e ∷ []) → (reads (e ∷ []) ≡ 0)
+      ⊎ (bytes_before (e ∷ []) < left) → Fits mark (e ∷ []) (ready q.desk)
       → Part hears gives ready remaining contents low high left rest mark p q
   turns_one e low high left rest mark p q d w busy bound spends light fits =
-      record { events = e ∷ []; did = (p, refl, d, w); busy = busy; bound = bound; spends = spends; light = light; fits = fits }
+      record {
+        events = e ∷ [];
+        did = (p, refl, d, w);
+        busy = busy;
+        bound = bound;
+        spends = spends;
+        light = light;
+        fits = fits;
+      }
 
   pub turns_then : (l m low h k high left mid rest : ℕ) (first mark : Mark) (p q r : Place D S)
-      → Part hears gives ready remaining contents l h left mid first p q → Part hears gives ready remaining contents m k mid rest mark q r → low ≤ l + m → h + k ≤ high
+      → Part hears gives ready remaining contents l h left mid first p q
+      → Part hears gives ready remaining contents m k mid rest mark q r → low ≤ l + m → h + k ≤ high
       → Part hears gives ready remaining contents low high left rest mark p r
   turns_then l m low h k high left mid rest first mark p q r a b busy bound = record {
     events = b.events ++ a.events;
@@ -290,7 +341,9 @@ module _ {D S : Type 0} (hears : D → List ℕ → D → Type 0) (gives : D →
   }
 
   -- where nothing was read no byte of what was left is spent
-  pub turns_quiet : (low high left rest : ℕ) (mark : Mark) (p q : Place D S) → Part hears gives ready remaining contents low 0 0 0 mark p q → rest ≡ left → Part hears gives ready remaining contents low high left rest mark p q
+  pub turns_quiet : (low high left rest : ℕ) (mark : Mark) (p q : Place D S)
+      → Part hears gives ready remaining contents low 0 0 0 mark p q → rest ≡ left
+      → Part hears gives ready remaining contents low high left rest mark p q
   turns_quiet low high left rest mark p q a same = record {
     events = a.events;
     did = a.did;
@@ -302,11 +355,16 @@ module _ {D S : Type 0} (hears : D → List ℕ → D → Type 0) (gives : D →
   }
 
   -- the same under another name of its mark
-  pub turns_as : (low high left rest : ℕ) (mark named : Mark) (p q : Place D S) → Part hears gives ready remaining contents low high left rest mark p q → mark ≡ named → Part hears gives ready remaining contents low high left rest named p q
-  turns_as low high left rest mark named p q a same = let P : Mark → Type 0 = λ m. Part hears gives ready remaining contents low high left rest m p q in subst P same a
+  pub turns_as : (low high left rest : ℕ) (mark named : Mark) (p q : Place D S)
+      → Part hears gives ready remaining contents low high left rest mark p q → mark ≡ named
+      → Part hears gives ready remaining contents low high left rest named p q
+  turns_as low high left rest mark named p q a same = let P : Mark → Type 0 =
+      λ m. Part hears gives ready remaining contents low high left rest m p q in subst P same a
 
   -- there may be more
-  pub turns_sent_much : (low l : ℕ) (mark : Mark) (p q : Place D S) → Part hears gives ready remaining contents l 0 0 0 mark p q → most_reads ≤ l → low ≡ 0 → Part hears gives ready remaining contents low 0 0 0 (over turn.More) p q
+  pub turns_sent_much : (low l : ℕ) (mark : Mark) (p q : Place D S)
+      → Part hears gives ready remaining contents l 0 0 0 mark p q → most_reads ≤ l → low ≡ 0
+      → Part hears gives ready remaining contents low 0 0 0 (over turn.More) p q
   turns_sent_much low l mark p q a much is = record {
     events = a.events;
     did = a.did;
@@ -319,21 +377,53 @@ module _ {D S : Type 0} (hears : D → List ℕ → D → Type 0) (gives : D →
 
   -- ---- whole turns
 
-  pub turns_done : (low high rest : ℕ) (end : TurnEnd) (p q : Place D S) → Part hears gives ready remaining contents low high most_bytes rest (over end) p q → high ≤ most_reads → Turns hears gives ready remaining contents end p q
-  turns_done low high rest end p q a bound = record { events = a.events; did = a.did; bound = omega (arith, a.bound, bound); light = light_all a.events a.light; fits = a.fits }
+  pub turns_done : (low high rest : ℕ) (end : TurnEnd) (p q : Place D S)
+      → Part hears gives ready remaining contents low high most_bytes rest (over end) p q → high ≤ most_reads
+      → Turns hears gives ready remaining contents end p q
+  turns_done low high rest end p q a bound =
+      record {
+        events = a.events;
+        did = a.did;
+        bound = omega (arith, a.bound, bound);
+        light = light_all a.events a.light;
+        fits = a.fits;
+      }
 
-  pub turns_go_on : (low high rest : ℕ) (mark : Mark) (p q : Place D S) → Part hears gives ready remaining contents low high most_bytes rest mark p q → high ≤ most_reads
+  pub turns_go_on : (low high rest : ℕ) (mark : Mark) (p q : Place D S)
+      → Part hears gives ready remaining contents low high most_bytes rest mark p q → high ≤ most_reads
       → (most_reads ≤ low) ⊎ (rest ≡ 0) → Turns hears gives ready remaining contents turn.More p q
   turns_go_on low high rest mark p q a bound (inl h) =
-      record { events = a.events; did = a.did; bound = omega (arith, a.bound, bound); light = light_all a.events a.light; fits = inl (omega (arith, a.busy, h)) }
+      record {
+        events = a.events;
+        did = a.did;
+        bound = omega (arith, a.bound, bound);
+        light = light_all a.events a.light;
+        fits = inl (omega (arith, a.busy, h));
+      }
   turns_go_on low high rest mark p q a bound (inr h) =
-      record { events = a.events; did = a.did; bound = omega (arith, a.bound, bound); light = light_all a.events a.light; fits = inr (omega (arith, a.spends, h)) }
+      record {
+        events = a.events;
+        did = a.did;
+        bound = omega (arith, a.bound, bound);
+        light = light_all a.events a.light;
+        fits = inr (omega (arith, a.spends, h));
+      }
 
-  pub turns_wait : (low high rest : ℕ) (p q : Place D S) → Part hears gives ready remaining contents low high most_bytes rest emptied p q → high ≤ most_reads → ready q.desk ≡ false → Turns hears gives ready remaining contents turn.Idle p q
+  pub turns_wait : (low high rest : ℕ) (p q : Place D S)
+      → Part hears gives ready remaining contents low high most_bytes rest emptied p q → high ≤ most_reads
+      → ready q.desk ≡ false → Turns hears gives ready remaining contents turn.Idle p q
   turns_wait low high rest p q a bound is =
-      record { events = a.events; did = a.did; bound = omega (arith, a.bound, bound); light = light_all a.events a.light; fits = rests_emptied a.events (ready q.desk) a.fits is }
+      record {
+        events = a.events;
+        did = a.did;
+        bound = omega (arith, a.bound, bound);
+        light = light_all a.events a.light;
+        fits = rests_emptied a.events (ready q.desk) a.fits is;
+      }
 
-  pub turns_after : (low : ℕ) (mark : Mark) (end : TurnEnd) (p q r : Place D S) → Part hears gives ready remaining contents low 0 0 0 mark p q → Turns hears gives ready remaining contents end q r → Turns hears gives ready remaining contents end p r
+  pub turns_after : (low : ℕ) (mark : Mark) (end : TurnEnd) (p q r : Place D S)
+      → Part hears gives ready remaining contents low 0 0 0 mark p q
+      → Turns hears gives ready remaining contents end q r → Turns hears gives ready remaining contents end p r
   turns_after low mark end p q r a b = record {
     events = b.events ++ a.events;
     did = did_then b.events a.events p q r a.did b.did;
@@ -344,107 +434,147 @@ module _ {D S : Type 0} (hears : D → List ℕ → D → Type 0) (gives : D →
 
   -- ---- by what was sent
 
-  pub out_open : (d e : D) (v w : WireState S) (out : Out) → v.stage ≡ Open → gives d (Some out) e → Settles contents v.socket out w.socket w.stage → w.stage ≡ Open
+  pub out_open : (d e : D) (v w : WireState S) (out : Out) → v.stage ≡ Open → gives d (Some out) e
+      → Settles contents v.socket out w.socket w.stage → w.stage ≡ Open
       → Part hears gives ready remaining contents 1 0 0 0 going (place d v) (place e w)
-  out_open d e v w out is h (inl lands) opened = turns_one (sent out) 1 0 0 0 going _ _ h (is, lands) (omega arith) (omega arith) (omega arith) (inl (omega arith)) tt
+  out_open d e v w out is h (inl lands) opened =
+      turns_one (sent out) 1 0 0 0 going _ _ h (is, lands) (omega arith) (omega arith) (omega arith) (inl (omega arith))
+      tt
   out_open d e v w out is h (inr fails) opened = absurd (open_not_after w.stage fails.0 (close_in out) opened fails.1.1)
 
-  pub out_stopped : (d e : D) (v w : WireState S) (out : Out) (end : TurnEnd) → v.stage ≡ Open → gives d (Some out) e → Settles contents v.socket out w.socket w.stage
+  pub out_stopped : (d e : D) (v w : WireState S) (out : Out) (end : TurnEnd) → v.stage ≡ Open → gives d (Some out) e
+      → Settles contents v.socket out w.socket w.stage
       → Stops end w.stage → Part hears gives ready remaining contents 0 0 0 0 (over end) (place d v) (place e w)
   out_stopped d e v w out end is h (inl lands) stops =
-      turns_one (sent out) 0 0 0 0 (over end) _ _ h (is, lands) (omega arith) (omega arith) (omega arith) (inl (omega arith)) (fits_settled end (close_in out) w.stage (sent out) [] (ready e) lands.2 stops)
+      turns_one (sent out) 0 0 0 0 (over end) _ _ h (is, lands) (omega arith) (omega arith) (omega arith)
+      (inl (omega arith)) (fits_settled end (close_in out) w.stage (sent out) [] (ready e) lands.2 stops)
   out_stopped d e v w out end is h (inr fails) stops =
-      turns_one (refused out fails.0) 0 0 0 0 (over end) _ _ h (is, fails.1) (omega arith) (omega arith) (omega arith) (inl (omega arith)) (fits_stop end w.stage (refused out fails.0) [] (ready e) stops.0 refl)
+      turns_one (refused out fails.0) 0 0 0 0 (over end) _ _ h (is, fails.1) (omega arith) (omega arith) (omega arith)
+      (inl (omega arith)) (fits_stop end w.stage (refused out fails.0) [] (ready e) stops.0 refl)
 
   -- ---- by what was flushed
 
-  pub flush_turns : (d : D) (v w : WireState S) (close : Option ℕ) (r : Result (Unit {0}) TurnEnd) → v.stage ≡ Unflushed close → Flushed contents v.socket w.socket
+  pub flush_turns : (d : D) (v w : WireState S) (close : Option ℕ) (r : Result (Unit {0}) TurnEnd)
+      → v.stage ≡ Unflushed close → Flushed contents v.socket w.socket
       → FlushLeaves close w.socket w.stage → OnOk r (w.stage ≡ Open) → IfErr r (λ end. Stops end w.stage)
       → Part hears gives ready remaining contents 0 0 0 0 (mark_of r) (place d v) (place d w)
   flush_turns d v w close (Ok u) is f (inl leaves) opened stops =
-      turns_one flushed 0 0 0 0 going _ _ refl (close, is, f, leaves.0, leaves.1) (omega arith) (omega arith) (omega arith) (inl (omega arith)) tt
-  flush_turns d v w close (Ok u) is f (inr fails) opened stops = absurd (open_not_after w.stage fails.0 close opened fails.2)
+      turns_one flushed 0 0 0 0 going _ _ refl (close, is, f, leaves.0, leaves.1) (omega arith) (omega arith)
+      (omega arith) (inl (omega arith)) tt
+  flush_turns d v w close (Ok u) is f (inr fails) opened stops =
+      absurd (open_not_after w.stage fails.0 close opened fails.2)
   flush_turns d v w close (Err end) is f (inl leaves) opened stops =
-      turns_one flushed 0 0 0 0 (over end) _ _ refl (close, is, f, leaves.0, leaves.1) (omega arith) (omega arith) (omega arith) (inl (omega arith)) (fits_settled end close w.stage flushed [] (ready d) leaves.1 stops)
+      turns_one flushed 0 0 0 0 (over end) _ _ refl (close, is, f, leaves.0, leaves.1) (omega arith) (omega arith)
+      (omega arith) (inl (omega arith)) (fits_settled end close w.stage flushed [] (ready d) leaves.1 stops)
   flush_turns d v w close (Err end) is f (inr fails) opened stops =
-      turns_one (tried fails.0) 0 0 0 0 (over end) _ _ refl (close, is, f, fails.1, fails.2) (omega arith) (omega arith) (omega arith) (inl (omega arith)) (fits_stop end w.stage (tried fails.0) [] (ready d) stops.0 refl)
+      turns_one (tried fails.0) 0 0 0 0 (over end) _ _ refl (close, is, f, fails.1, fails.2) (omega arith) (omega arith)
+      (omega arith) (inl (omega arith)) (fits_stop end w.stage (tried fails.0) [] (ready d) stops.0 refl)
 
   -- ---- by what was read
 
   turns_at : (low high left rest : ℕ) (mark : Mark) (d : D) (u v : WireState S) (q : Place D S) → u ≡ v
-      → Part hears gives ready remaining contents low high left rest mark (place d u) q → Part hears gives ready remaining contents low high left rest mark (place d v) q
+      → Part hears gives ready remaining contents low high left rest mark (place d u) q
+      → Part hears gives ready remaining contents low high left rest mark (place d v) q
   turns_at low high left rest mark d u v q same h =
-      let P : WireState S → Type 0 = λ x. Part hears gives ready remaining contents low high left rest mark (place d x) q in
+      let P : WireState S → Type 0 =
+      λ x. Part hears gives ready remaining contents low high left rest mark (place d x) q in
       subst P same h
 
   stage_at : (u v : WireState S) → u ≡ v → v.stage ≡ Open → u.stage ≡ Open
   stage_at u v same is = ap (λ (x : WireState S). x.stage) same ∙ is
 
   -- a message was acted on at the stage that was found
-  pub acted_turns : (low high left rest : ℕ) (mark : Mark) (d : D) (u v : WireState S) (q : Place D S) → u ≡ v → v.stage ≡ Open
-      → Part hears gives ready remaining contents low high left rest mark (place d (record { socket = u.socket; stage = Open })) q
+  pub acted_turns : (low high left rest : ℕ) (mark : Mark) (d : D) (u v : WireState S) (q : Place D S) → u ≡ v
+      → v.stage ≡ Open
+      → Part hears gives ready remaining contents low high left rest mark
+      (place d (record { socket = u.socket; stage = Open })) q
       → Part hears gives ready remaining contents low high left rest mark (place d v) q
   acted_turns low high left rest mark d u v q same is h =
       let found : WireState S = record { socket = u.socket; stage = Open } in
       let at : found ≡ u = λ i. record { socket = u.socket; stage = sym (stage_at u v same is) i } in
       turns_at low high left rest mark d found v q (at ∙ same) h
 
-  pub heard_turns : (d e : D) (u v w : WireState S) (m : Message) (t : List ℕ) (left rest : ℕ) → u ≡ v → v.stage ≡ Open → ready d ≡ true → 0 < left → w.stage ≡ u.stage
+  pub heard_turns : (d e : D) (u v w : WireState S) (m : Message) (t : List ℕ) (left rest : ℕ) → u ≡ v → v.stage ≡ Open
+      → ready d ≡ true → 0 < left → w.stage ≡ u.stage
       → Reads remaining u.socket w.socket (Ok m) → content_of m ≡ text t → hears d t e → rest ≡ left - length t
       → Part hears gives ready remaining contents 1 1 left rest going (place d v) (place e w)
   heard_turns d e u v w m t left rest same is free room stays read says h spends =
       let at : u.stage ≡ Open = stage_at u v same is in
       turns_at 1 1 left rest going d u v _ same
-      (turns_one (heard t) 1 1 left rest going _ _ (free, h) (at, stays ∙ at, (m, read, says)) (omega arith) (omega arith) (omega (arith, spends)) (inr (omega (arith, room))) tt)
+      (turns_one (heard t) 1 1 left rest going _ _ (free, h) (at, stays ∙ at, (m, read, says)) (omega arith)
+      (omega arith) (omega (arith, spends)) (inr (omega (arith, room))) tt)
 
-  pub passed_turns : (d : D) (u v w : WireState S) (m : Message) (left rest : ℕ) → u ≡ v → v.stage ≡ Open → ready d ≡ true → 0 < left → rest ≡ left → w.stage ≡ u.stage
-      → Reads remaining u.socket w.socket (Ok m) → is_signal (content_of m) ≡ true → Part hears gives ready remaining contents 1 1 left rest going (place d v) (place d w)
+  pub passed_turns : (d : D) (u v w : WireState S) (m : Message) (left rest : ℕ) → u ≡ v → v.stage ≡ Open
+      → ready d ≡ true → 0 < left → rest ≡ left → w.stage ≡ u.stage
+      → Reads remaining u.socket w.socket (Ok m) → is_signal (content_of m) ≡ true
+      → Part hears gives ready remaining contents 1 1 left rest going (place d v) (place d w)
   passed_turns d u v w m left rest same is free room stay stays read says =
       let at : u.stage ≡ Open = stage_at u v same is in
       turns_at 1 1 left rest going d u v _ same
-      (turns_one passed 1 1 left rest going _ _ (free, refl) (at, stays ∙ at, (m, read, says)) (omega arith) (omega arith) (omega (arith, stay)) (inr (omega (arith, room))) tt)
+      (turns_one passed 1 1 left rest going _ _ (free, refl) (at, stays ∙ at, (m, read, says)) (omega arith)
+      (omega arith) (omega (arith, stay)) (inr (omega (arith, room))) tt)
 
-  reject_here : (d : D) (v w : WireState S) (mid : Socket S) (m : Result Message Error) (r : Result (Unit {0}) TurnEnd) (left rest : ℕ) → ready d ≡ true → 0 < left → rest ≡ left
-      → v.stage ≡ Open → is_bad m → Reads remaining v.socket mid m → Settles contents mid (Close bad_message) w.socket w.stage → IfErr r (λ end. Stops end w.stage)
+  reject_here : (d : D) (v w : WireState S) (mid : Socket S) (m : Result Message Error) (r : Result (Unit {0}) TurnEnd)
+      (left rest : ℕ) → ready d ≡ true → 0 < left → rest ≡ left
+      → v.stage ≡ Open → is_bad m → Reads remaining v.socket mid m
+      → Settles contents mid (Close bad_message) w.socket w.stage → IfErr r (λ end. Stops end w.stage)
       → Part hears gives ready remaining contents (read_in r) 1 left rest (mark_of r) (place d v) (place d w)
   reject_here d v w mid m (Ok u) left rest free room stay is bad read put stops =
-      turns_one rejected 1 1 left rest going _ _ (free, refl) (is, (m, mid, bad, read, put)) (omega arith) (omega arith) (omega (arith, stay)) (inr (omega (arith, room))) tt
+      turns_one rejected 1 1 left rest going _ _ (free, refl) (is, (m, mid, bad, read, put)) (omega arith) (omega arith)
+      (omega (arith, stay)) (inr (omega (arith, room))) tt
   reject_here d v w mid m (Err end) left rest free room stay is bad read put stops =
-      turns_one rejected 0 1 left rest (over end) _ _ (free, refl) (is, (m, mid, bad, read, put)) (omega arith) (omega arith) (omega (arith, stay)) (inr (omega (arith, room)))
+      turns_one rejected 0 1 left rest (over end) _ _ (free, refl) (is, (m, mid, bad, read, put)) (omega arith)
+      (omega arith) (omega (arith, stay)) (inr (omega (arith, room)))
       (fits_stop end w.stage rejected [] (ready d) stops.0 refl)
 
-  pub reject_turns : (d : D) (u v w : WireState S) (mid : Socket S) (m : Result Message Error) (code : ℕ) (r : Result (Unit {0}) TurnEnd) (left rest : ℕ) → u ≡ v → v.stage ≡ Open
+  pub reject_turns : (d : D) (u v w : WireState S) (mid : Socket S) (m : Result Message Error) (code : ℕ)
+      (r : Result (Unit {0}) TurnEnd) (left rest : ℕ) → u ≡ v → v.stage ≡ Open
       → ready d ≡ true → 0 < left → rest ≡ left → is_bad m
-      → Reads remaining u.socket mid m → code ≡ bad_message → Settles contents mid (Close code) w.socket w.stage → IfErr r (λ end. Stops end w.stage)
+      → Reads remaining u.socket mid m → code ≡ bad_message → Settles contents mid (Close code) w.socket w.stage
+      → IfErr r (λ end. Stops end w.stage)
       → Part hears gives ready remaining contents (read_in r) 1 left rest (mark_of r) (place d v) (place d w)
   reject_turns d u v w mid m code r left rest same is free room stay bad read number put stops =
       let P : ℕ → Type 0 = λ n. Settles contents mid (Close n) w.socket w.stage in
-      turns_at _ _ _ _ _ d u v _ same (reject_here d u w mid m r left rest free room stay (stage_at u v same is) bad read (subst P number put) stops)
+      turns_at _ _ _ _ _ d u v _ same (reject_here d u w mid m r left rest free room stay (stage_at u v same is) bad
+      read (subst P number put) stops)
 
-  close_here : (d : D) (v x w : WireState S) (code : ℕ) (r : Result (Unit {0}) TurnEnd) (left rest : ℕ) → ready d ≡ true → 0 < left → rest ≡ left → WireDoes hears gives ready remaining contents (ended code) v x
-      → Flushed contents x.socket w.socket → FlushLeaves (Some code) w.socket w.stage → OnOk r (w.stage ≡ Open) → IfErr r (λ end. Stops end w.stage)
+  close_here : (d : D) (v x w : WireState S) (code : ℕ) (r : Result (Unit {0}) TurnEnd) (left rest : ℕ) → ready d ≡ true
+      → 0 < left → rest ≡ left → WireDoes hears gives ready remaining contents (ended code) v x
+      → Flushed contents x.socket w.socket → FlushLeaves (Some code) w.socket w.stage → OnOk r (w.stage ≡ Open)
+      → IfErr r (λ end. Stops end w.stage)
       → Part hears gives ready remaining contents (read_in r) 1 left rest (mark_of r) (place d v) (place d w)
   close_here d v x w code (Ok u) left rest free room stay did f leaves opened stops =
       turns_then 1 0 1 1 0 1 left left rest going going _ (place d x) _
-      (turns_one (ended code) 1 1 left left going _ _ (free, refl) did (omega arith) (omega arith) (omega arith) (inr (omega (arith, room))) tt)
-      (turns_quiet 0 0 left rest going _ _ (flush_turns d x w (Some code) (Ok u) did.1 f leaves opened stops) stay) (omega arith) (omega arith)
+      (turns_one (ended code) 1 1 left left going _ _ (free, refl) did (omega arith) (omega arith) (omega arith)
+      (inr (omega (arith, room))) tt)
+      (turns_quiet 0 0 left rest going _ _ (flush_turns d x w (Some code) (Ok u) did.1 f leaves opened stops) stay)
+      (omega arith) (omega arith)
   close_here d v x w code (Err end) left rest free room stay did f leaves opened stops =
       turns_then 1 0 0 1 0 1 left left rest going (over end) _ (place d x) _
-      (turns_one (ended code) 1 1 left left going _ _ (free, refl) did (omega arith) (omega arith) (omega arith) (inr (omega (arith, room))) tt)
-      (turns_quiet 0 0 left rest (over end) _ _ (flush_turns d x w (Some code) (Err end) did.1 f leaves opened stops) stay) (omega arith) (omega arith)
+      (turns_one (ended code) 1 1 left left going _ _ (free, refl) did (omega arith) (omega arith) (omega arith)
+      (inr (omega (arith, room))) tt)
+      (turns_quiet 0 0 left rest (over end) _ _ (flush_turns d x w (Some code) (Err end) did.1 f leaves opened stops)
+      stay) (omega arith) (omega arith)
 
-  pub close_turns : (d : D) (u v w : WireState S) (mid : Socket S) (m : Message) (code : ℕ) (r : Result (Unit {0}) TurnEnd) (left rest : ℕ) → u ≡ v → v.stage ≡ Open
+  pub close_turns : (d : D) (u v w : WireState S) (mid : Socket S) (m : Message) (code : ℕ)
+      (r : Result (Unit {0}) TurnEnd) (left rest : ℕ) → u ≡ v → v.stage ≡ Open
       → ready d ≡ true → 0 < left → rest ≡ left → Reads remaining u.socket mid (Ok m)
-      → code_in (content_of m) ≡ Some code → Flushed contents mid w.socket → FlushLeaves (Some code) w.socket w.stage → OnOk r (w.stage ≡ Open) → IfErr r (λ end. Stops end w.stage)
+      → code_in (content_of m) ≡ Some code → Flushed contents mid w.socket → FlushLeaves (Some code) w.socket w.stage
+      → OnOk r (w.stage ≡ Open) → IfErr r (λ end. Stops end w.stage)
       → Part hears gives ready remaining contents (read_in r) 1 left rest (mark_of r) (place d v) (place d w)
   close_turns d u v w mid m code r left rest same is free room stay read says f leaves opened stops =
       turns_at _ _ _ _ _ d u v _ same
-      (close_here d u (record { socket = mid; stage = Unflushed (Some code) }) w code r left rest free room stay (stage_at u v same is, refl, (m, read, says)) f leaves opened stops)
+      (close_here d u (record { socket = mid; stage = Unflushed (Some code) }) w code r left rest free room stay
+      (stage_at u v same is, refl, (m, read, says)) f leaves opened stops)
 
-  pub fail_turns : (d : D) (u v w : WireState S) (mid : Socket S) (e : Error) (end : TurnEnd) (left rest : ℕ) → u ≡ v → v.stage ≡ Open
-      → ready d ≡ true → 0 < left → rest ≡ left → Reads remaining u.socket mid (Err e) → TellsIf contents mid (code_of_fault e) w.socket → w.stage ≡ stage_after e Open → Halts end w.stage
+  pub fail_turns : (d : D) (u v w : WireState S) (mid : Socket S) (e : Error) (end : TurnEnd) (left rest : ℕ) → u ≡ v
+      → v.stage ≡ Open
+      → ready d ≡ true → 0 < left → rest ≡ left → Reads remaining u.socket mid (Err e)
+      → TellsIf contents mid (code_of_fault e) w.socket → w.stage ≡ stage_after e Open → Halts end w.stage
       → Part hears gives ready remaining contents 0 1 left rest (over end) (place d v) (place d w)
   fail_turns d u v w mid e end left rest same is free room stay read tells left_at halts =
       turns_at _ _ _ _ _ d u v _ same
-      (turns_one (failed e) 0 1 left rest (over end) _ _ (free, refl) (stage_at u v same is, (mid, read, tells), left_at)
-      (omega arith) (omega arith) (omega (arith, stay)) (inl (omega arith)) (fits_stop end w.stage (failed e) [] (ready d) halts refl))
+      (turns_one (failed e) 0 1 left rest (over end) _ _ (free, refl)
+      (stage_at u v same is, (mid, read, tells), left_at)
+      (omega arith) (omega arith) (omega (arith, stay)) (inl (omega arith))
+      (fits_stop end w.stage (failed e) [] (ready d) halts refl))

@@ -61,7 +61,8 @@ abbrev pub stage_after : Error → Stage → Stage
 stage_after e waiting = if waits_by e then waiting else Over (end_by e)
 
 -- The code of the close that a peer is told after a read with this error: 1002 where it sent what is no frame, or one
--- that may not come there, and 1007 where a text or the reason of a close is not UTF-8. (RFC 6455, sections 7.1.7, 7.4.1
+-- that may not come there, and 1007 where a text or the reason of a close is not UTF-8. (RFC 6455, sections 7.1.7,
+-- 7.4.1
 -- and 8.1.) None where the stream ended or failed, or memory was refused.
 abbrev pub code_of_cause : ProtocolError → Option ℕ
 code_of_cause ResetWithoutClosingHandshake = None

@@ -181,7 +181,8 @@ module _ {S : Type 0} where
       × (close_in out ≡ None → e ≡ WriteBufferFull → new ≡ old) × (e ≡ OutOfMemory → new ≡ old)
 
   abbrev pub Refuses : (S → Option (List ℕ)) → Socket S → Out → Socket S → Error → Stage → Type 0
-  Refuses contents old out new e stage = Fails contents old out new e × (stage ≡ stage_after e (Unflushed (close_in out)))
+  Refuses contents old out new e stage =
+      Fails contents old out new e × (stage ≡ stage_after e (Unflushed (close_in out)))
 
   abbrev pub Settles : (S → Option (List ℕ)) → Socket S → Out → Socket S → Stage → Type 0
   Settles contents old out new stage =

@@ -11,7 +11,7 @@ use crate::end::Stage;
 use crate::gather::write_all_of;
 use crate::head::read_head;
 use crate::wire::Wire;
-use cf_handshake::{HeadAsk, Opening, HandshakeError, asked_of};
+use cf_handshake::{HandshakeError, HeadAsk, Opening, asked_of};
 use std::alloc::{AllocError, Global};
 use std::io;
 use std::io::{ErrorKind, Read, Write};
@@ -173,7 +173,12 @@ impl<S: Read + Write + Drop> Wire<S> {
     }
 
     /// Answers a head, behind which this was read.
-    fn answer(alloc: Global, mut stream: S, head: &[u8], rest: &[u8]) -> Result<Wire<S>, RefusedStream<S>>
+    fn answer(
+        alloc: Global,
+        mut stream: S,
+        head: &[u8],
+        rest: &[u8],
+    ) -> Result<Wire<S>, RefusedStream<S>>
         ensures open { IfOk result (λ wire. wire.stage ≡ stage.Open) }
         ensures fresh { IfOk result (λ wire.
             IsFresh (record wire.socket { input = [] }) wire.socket.stream Role.Server) }

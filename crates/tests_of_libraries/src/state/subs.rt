@@ -1,6 +1,6 @@
 //! Which session follows which channel: by rows, against a plain list of rows, and at the largest size.
 use crate::rows::{Subject, Told, are_so, call_of};
-use cf_subs::{MOST_ROWS, SubTableError, SubTable};
+use cf_subs::{MOST_ROWS, SubTable, SubTableError};
 use std::alloc::Global;
 
 /// Adds a row, which may be there.

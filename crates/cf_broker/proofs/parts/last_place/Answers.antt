@@ -10,8 +10,20 @@ unreachable-requires-in_default-pop g c =
 
 pub new-requires : goal.new-requires
 new-requires g c =
-    let last = last_name g.N.Naming.words g.row.I c.args.words.now.items c.pop-2.new.self.items c.in-Some-pop.new c.requires.words c.in-Some-pop.ensures.items in
-    (search rules, (c.in-Some.part.empty, (c.new.view_is ∙ last.1, ap (λ (o : OwnerState). o.word) c.new.invariant, ap (λ (o : OwnerState). o.log) c.new.invariant)))
+    let last = last_name g.N.Naming.words g.row.I c.args.words.now.items c.pop-2.new.self.items c.in-Some-pop.new
+    c.requires.words c.in-Some-pop.ensures.items in (
+      search rules,
+      (
+        c.in-Some.part.empty,
+        (
+          c.new.view_is ∙ last.1,
+          ap (λ (o : OwnerState). o.word) c.new.invariant,
+          ap (λ (o : OwnerState). o.log) c.new.invariant,
+        ),
+      ),
+    )
 
 pub returns-clause-words : goal.returns-clause-words
-returns-clause-words g c = (last_name g.N.Naming.words g.row.I c.args.words.now.items c.pop-2.new.self.items c.in-Some-pop.new c.requires.words c.in-Some-pop.ensures.items).0
+returns-clause-words g c =
+    (last_name g.N.Naming.words g.row.I c.args.words.now.items c.pop-2.new.self.items c.in-Some-pop.new c.requires.words
+    c.in-Some-pop.ensures.items).0

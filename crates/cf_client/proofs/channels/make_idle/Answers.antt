@@ -4,4 +4,5 @@ use Rattle.cf_client.proofs.Moves.{map_all, code_idle, all_idle}
 use Rattle.cf_client.proofs.channels.make_idle.Goals as goal
 
 pub returns : goal.returns
-returns c = all_idle c.args.channels.now c.retain.new.self (map_all _ code_idle _ (λ k v b w f' t. search rules) _ _ c.retain.ensures.filtered)
+returns c = all_idle c.args.channels.now c.retain.new.self
+    (map_all _ code_idle _ (λ k v b w f' t. search rules) _ _ c.retain.ensures.filtered)

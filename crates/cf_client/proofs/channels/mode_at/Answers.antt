@@ -1,4 +1,5 @@
--- Both arms read the map's answer back through `modes-get`, which ties the map to the definition's function of channels.
+-- Both arms read the map's answer back through `modes-get`, which ties the map to the definition's function of
+-- channels.
 use Rattle.std.proofs.Common.{sym, ap, ◌∙◌}
 use Rattle.cf_client.specs.Shown.{mode_or_idle}
 use Rattle.cf_client.proofs.Moves.{modes-get}

@@ -21,5 +21,6 @@ returns g c =
       limit = took.limit;
       memory = took.memory;
       room = took.room;
-      getting = subst (λ (b : Bool). g.O.Outlets.gets c.lend-outbox.new.self c.args.session c.take_for-why.new.outbox b c.give.new.self) c.leaves_more.ensures c.give.ensures;
+      getting = subst (λ (b : Bool). g.O.Outlets.gets c.lend-outbox.new.self c.args.session c.take_for-why.new.outbox b
+          c.give.new.self) c.leaves_more.ensures c.give.ensures;
     }

@@ -26,11 +26,25 @@ loop-count-preserved g c =
     let has = c.push_back_reserved.new.self.items in
     record {
       takes =
-          takes_more c.args.session c.args.hub.now.node c.loop-count.hub.node c.take.new.self.node c.args.taken.now.items had has out before.takes
-          (ap (option_map meaning) (sym c.in-Some.is) ∙ c.take.ensures.front) c.take.ensures.sessions c.take.ensures.turns
+          takes_more c.args.session c.args.hub.now.node c.loop-count.hub.node c.take.new.self.node
+          c.args.taken.now.items had has out before.takes
+          (ap (option_map meaning) (sym c.in-Some.is) ∙ c.take.ensures.front) c.take.ensures.sessions
+          c.take.ensures.turns
           (gains had c.has_room.new.taken.items has out c.has_room.ensures.same c.push_back_reserved.ensures.items);
-      counted = omega (arith, longer had c.has_room.new.taken.items has out c.has_room.ensures.same c.push_back_reserved.ensures.items, before.counted);
-      heavy = omega (arith, heavier had c.has_room.new.taken.items has out c.has_room.ensures.same c.push_back_reserved.ensures.items, before.heavy, c.length_of.ensures, c.saturating_add-bytes.ensures);
+      counted = omega (
+        arith,
+        longer had c.has_room.new.taken.items has out c.has_room.ensures.same
+            c.push_back_reserved.ensures.items,
+        before.counted,
+      );
+      heavy = omega (
+        arith,
+        heavier had c.has_room.new.taken.items has out c.has_room.ensures.same
+            c.push_back_reserved.ensures.items,
+        before.heavy,
+        c.length_of.ensures,
+        c.saturating_add-bytes.ensures,
+      );
       room = omega (arith, before.room, c.has_room.ensures.keeps, c.push_back_reserved.ensures.capacity);
     }
 
@@ -40,7 +54,8 @@ returns-then-bytes-ge-MOST_TAKEN-clause-takes g c =
     let out = c.in-Some.out in
     let had = c.loop-count.taken.items in
     let has = c.push_back_reserved.new.self.items in
-    takes_more c.args.session c.args.hub.now.node c.loop-count.hub.node c.take.new.self.node c.args.taken.now.items had has out before.takes
+    takes_more c.args.session c.args.hub.now.node c.loop-count.hub.node c.take.new.self.node c.args.taken.now.items had
+    has out before.takes
     (ap (option_map meaning) (sym c.in-Some.is) ∙ c.take.ensures.front) c.take.ensures.sessions c.take.ensures.turns
     (gains had c.has_room.new.taken.items has out c.has_room.ensures.same c.push_back_reserved.ensures.items)
 
@@ -49,5 +64,13 @@ returns-then-bytes-ge-MOST_TAKEN-clause-limit g c =
     let before = c.loop-count.invariant in
     let had = c.loop-count.taken.items in
     let has = c.push_back_reserved.new.self.items in
-    let more = heavier had c.has_room.new.taken.items has c.in-Some.out c.has_room.ensures.same c.push_back_reserved.ensures.items in
-    λ _. inl (omega (arith, more, before.heavy, c.length_of.ensures, c.saturating_add-bytes.ensures, c.if-bytes-ge-MOST_TAKEN.true))
+    let more = heavier had c.has_room.new.taken.items has c.in-Some.out c.has_room.ensures.same
+    c.push_back_reserved.ensures.items in
+    λ _. inl (omega (
+      arith,
+      more,
+      before.heavy,
+      c.length_of.ensures,
+      c.saturating_add-bytes.ensures,
+      c.if-bytes-ge-MOST_TAKEN.true,
+    ))

@@ -6,4 +6,5 @@ use Rattle.cf_handshake.proofs.lines.lists.Given as goal
 
 abbrev pub invariant-loop-line : goal.invariant-loop-line
 invariant-loop-line l =
-    lists l.case l.item (fields_of l.head l.lines) l.name ≡ lists l.case l.item (fields_of l.head (drop l.line-index l.lines)) l.name
+    lists l.case l.item (fields_of l.head l.lines) l.name
+    ≡ lists l.case l.item (fields_of l.head (drop l.line-index l.lines)) l.name

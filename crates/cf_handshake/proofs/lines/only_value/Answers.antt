@@ -6,6 +6,8 @@ use Rattle.cf_handshake.proofs.lines.only_value.Goals as goal
 
 pub returns-then-is_some : goal.returns-then-is_some
 returns-then-is_some c =
-    let same = ap (λ word. eq_ignore_case word c.args.name.now) (sym c.of.ensures) ∙ sym c.is_same_word.ensures ∙ c.if-is_same_word.true in
-    let more = named_from c.args.head.now c.args.name.now c.args.lines.now c.loop-line.line-index _ c.loop-line-test.true same in
+    let same = ap (λ word. eq_ignore_case word c.args.name.now) (sym c.of.ensures) ∙ sym c.is_same_word.ensures
+    ∙ c.if-is_same_word.true in
+    let more = named_from c.args.head.now c.args.name.now c.args.lines.now c.loop-line.line-index
+    _ c.loop-line-test.true same in
     two_values c.loop-line.found _ _ (sym c.is_some.ensures ∙ c.if-is_some.true) c.loop-line.invariant more

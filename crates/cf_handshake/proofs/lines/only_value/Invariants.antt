@@ -6,4 +6,5 @@ use Rattle.cf_handshake.proofs.lines.only_value.Given as goal
 
 abbrev pub invariant-loop-line : goal.invariant-loop-line
 invariant-loop-line l =
-    values_of (fields_of l.head l.lines) l.name ≡ after l.found (values_of (fields_of l.head (drop l.line-index l.lines)) l.name)
+    values_of (fields_of l.head l.lines) l.name ≡ after l.found
+    (values_of (fields_of l.head (drop l.line-index l.lines)) l.name)

@@ -4,4 +4,5 @@ use Rattle.cf_hub.proofs.laws.moves_are_alike.Goals as goal
 
 pub returns : goal.returns
 returns c lists =
-    moves_alike c.what_is_kept_stands.ensures.within c.what_is_kept_stands.ensures.arrival c.what_is_kept_stands.ensures.run c.what_is_kept_stands.ensures.short lists
+    moves_alike c.what_is_kept_stands.ensures.within c.what_is_kept_stands.ensures.arrival
+    c.what_is_kept_stands.ensures.run c.what_is_kept_stands.ensures.short lists

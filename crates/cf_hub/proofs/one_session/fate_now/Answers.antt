@@ -18,6 +18,11 @@ un_not false e = absurd (cc)
 pub returns-else-has : goal.returns-else-has
 returns-else-has c =
     let found : session_in c.args.sessions.now c.args.number ≡ Some c.in-Some.session.now = search rules in
-    let off : is_off ((state_of c.in-Some.session.now).subs c.args.channel.now) ≡ true = un_not (is_off ((state_of c.in-Some.session.now).subs c.args.channel.now)) (sym c.if-has.false ∙ c.has.ensures) in
-    subst (λ (o : Option AttachedSession). TellsFate fate.Ended c.args.channel.now (option_map attached_of o)) (sym found)
-    (tells_ended c.args.channel.now (option_map attached_of (Some c.in-Some.session.now)) off (λ h. let no = subst IsTrue c.if-is_empty.false ((has_none c.in-Some.session.now.subscriptions c.is_empty.result (search rules)).1 h) in cc))
+    let off : is_off ((state_of c.in-Some.session.now).subs c.args.channel.now) ≡ true =
+    un_not (is_off ((state_of c.in-Some.session.now).subs c.args.channel.now))
+    (sym c.if-has.false ∙ c.has.ensures) in
+    subst (λ (o : Option AttachedSession). TellsFate fate.Ended c.args.channel.now (option_map attached_of o))
+    (sym found)
+    (tells_ended c.args.channel.now (option_map attached_of (Some c.in-Some.session.now)) off
+    (λ h. let no = subst IsTrue c.if-is_empty.false
+    ((has_none c.in-Some.session.now.subscriptions c.is_empty.result (search rules)).1 h) in cc))

@@ -10,4 +10,5 @@ returns-then-is_empty-clause-others c =
     ∙ left_out c.args.subscriptions.now c.shift_remove.new.self c.args.channel.now c.shift_remove.ensures.entries
 
 pub returns-else-is_empty-clause-others : goal.returns-else-is_empty-clause-others
-returns-else-is_empty-clause-others c = left_out c.args.subscriptions.now c.shift_remove.new.self c.args.channel.now c.shift_remove.ensures.entries
+returns-else-is_empty-clause-others c =
+    left_out c.args.subscriptions.now c.shift_remove.new.self c.args.channel.now c.shift_remove.ensures.entries

@@ -5,5 +5,6 @@ use Rattle.cf_hub_moves.proofs.laws.moves_are_among.Goals as goal
 
 pub returns : goal.returns
 returns c lists =
-    moves_among c.what_is_kept_stands.ensures.within c.what_is_kept_stands.ensures.arrival c.what_is_kept_stands.ensures.run c.what_is_kept_stands.ensures.short
+    moves_among c.what_is_kept_stands.ensures.within c.what_is_kept_stands.ensures.arrival
+    c.what_is_kept_stands.ensures.run c.what_is_kept_stands.ensures.short
     SaysAside lists

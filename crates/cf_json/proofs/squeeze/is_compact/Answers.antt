@@ -1,4 +1,5 @@
--- The loop keeps that if nothing is to go from what is left, nothing is from the whole; a string is passed over in one step.
+-- The loop keeps that if nothing is to go from what is left, nothing is from the whole; a string is passed over in one
+-- step.
 use Rattle.std.proofs.Common.{◌≡◌, ◌∷◌, Ok, sym, ap, ◌∙◌, subst, arith}
 use Rattle.std.proofs.lemmas.Bool.{ne_eqb}
 use Rattle.std.proofs.lemmas.List.{nil_from_length}
@@ -16,7 +17,9 @@ pub loop-byte-preserved-then-byte-ne34 : goal.loop-byte-preserved-then-byte-ne34
 loop-byte-preserved-then-byte-ne34 c =
     let byte = c.in-Some.byte.now in
     record {
-      same = λ e. c.loop-byte.invariant.same (subst (λ s. kept Between s ≡ s) (sym c.in-Some.ensures.cases.0) (byte_kept byte c.in-Some.more.now (sym c.is_space.ensures ∙ c.if-is_space.false) (ne_eqb byte 34 c.if-byte-ne34.true) e));
+      same = λ e. c.loop-byte.invariant.same (subst (λ s. kept Between s ≡ s) (sym c.in-Some.ensures.cases.0)
+          (byte_kept byte c.in-Some.more.now (sym c.is_space.ensures ∙ c.if-is_space.false)
+          (ne_eqb byte 34 c.if-byte-ne34.true) e));
       shorter = omega (arith, c.in-Some.ensures.cases.1);
     }
 
@@ -25,9 +28,11 @@ loop-byte-preserved c =
     let reads : text_end Plain c.in-Some.more.now ≡ Ok c.in-Ok.after.now = sym c.in-Ok.ensures.same in
     let split = c.in-Some.ensures.cases.0 ∙ ap (λ b. b ∷ c.in-Some.more.now) c.if-byte-ne34.false in
     record {
-      same = λ e. c.loop-byte.invariant.same (subst (λ s. kept Between s ≡ s) (sym split) (string_kept c.in-Some.more.now c.in-Ok.after.now reads e));
+      same = λ e. c.loop-byte.invariant.same (subst (λ s. kept Between s ≡ s) (sym split)
+          (string_kept c.in-Some.more.now c.in-Ok.after.now reads e));
       shorter = omega (arith, c.in-Some.ensures.cases.1, c.in-Ok.ensures.shorter);
     }
 
 pub returns : goal.returns
-returns c = c.loop-byte.invariant.same (subst (λ s. kept Between s ≡ s) (sym (nil_from_length c.loop-byte.rest.now c.in_default.ensures.cases)) nothing_kept)
+returns c = c.loop-byte.invariant.same (subst (λ s. kept Between s ≡ s)
+    (sym (nil_from_length c.loop-byte.rest.now c.in_default.ensures.cases)) nothing_kept)

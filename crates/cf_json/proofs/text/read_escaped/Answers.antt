@@ -11,7 +11,8 @@ use Rattle.cf_json.proofs.Strings.{cut}
 use Rattle.cf_json.proofs.SerdeReads.{read-characters}
 use Rattle.cf_json.proofs.text.read_escaped.Goals as goal
 
-memory_only : {A : Type 0} (P : Fault → Type 0) (r : Result A Fault) → IsErrAnd r (λ e. e ≡ Memory) → P Memory → IfErr r P
+memory_only : {A : Type 0} (P : Fault → Type 0) (r : Result A Fault) → IsErrAnd r (λ e. e ≡ Memory) → P Memory
+    → IfErr r P
 memory_only P (Ok a) is m = tt
 memory_only P (Err e) is m = subst P (sym is) m
 
@@ -25,7 +26,8 @@ pub returns-in-Some-clause-ok : goal.returns-in-Some-clause-ok
 returns-in-Some-clause-ok c = λ d h.
     let token = c.range.ensures.value ∙ (cut c.args.text.now d c.args.span c.utf8.text h).token in
     let reads = ap read (sym token) ∙ c.in-Ok.ensures.ok in
-    sym (read-characters d h.value.0) ∙ ap (option_and_then as_str) reads ∙ sym c.in-Some.ensures ∙ ap Some (sym c.in_ok-from_str.ensures.ok)
+    sym (read-characters d h.value.0) ∙ ap (option_and_then as_str) reads ∙ sym c.in-Some.ensures
+    ∙ ap Some (sym c.in_ok-from_str.ensures.ok)
 
 pub returns-in_err-from_str-clause-err : goal.returns-in_err-from_str-clause-err
 returns-in_err-from_str-clause-err c =

@@ -13,6 +13,9 @@ pub returns-clause-same : goal.returns-clause-same
 returns-clause-same c =
     let n = c.plain_front.result in
     let text = c.args.text.now in
-    let front : take n c.in-Some.block.now ≡ take n text = rw (c.in-Some.ensures.cases.0) (take-take n 16 text c.plain_front.ensures.within) in
-    let plain : list_all is_plain (take n text) ≡ true = subst (λ w. list_all is_plain w ≡ true) front c.plain_front.ensures.plain in
-    ap (text_end Plain) c.split_at.ensures.back ∙ sym (plain_run (take n text) (drop n text) plain) ∙ ap (text_end Plain) (take-append-drop n text)
+    let front : take n c.in-Some.block.now ≡ take n text =
+    rw (c.in-Some.ensures.cases.0) (take-take n 16 text c.plain_front.ensures.within) in
+    let plain : list_all is_plain (take n text) ≡ true =
+    subst (λ w. list_all is_plain w ≡ true) front c.plain_front.ensures.plain in
+    ap (text_end Plain) c.split_at.ensures.back ∙ sym (plain_run (take n text) (drop n text) plain)
+    ∙ ap (text_end Plain) (take-append-drop n text)

@@ -13,5 +13,6 @@ returns g c =
     let held = c.len_as.ensures.rule.1 in
     let one = c.absorb.ensures.rule in
     let sent = ap (λ (v : Log g.row.T.Denot). v.sent) one ∙ ap (λ (e : End g.row.T.Denot). e.items) c.sender.view_is in
-    let received = ap (λ (v : Log g.row.T.Denot). v.received) one ∙ ap (λ (e : End g.row.T.Denot). e.items) c.receiver.view_is in
+    let received =
+    ap (λ (v : Log g.row.T.Denot). v.received) one ∙ ap (λ (e : End g.row.T.Denot). e.items) c.receiver.view_is in
     (held.0, sym sent ∙ held.2 ∙ ap (λ l. l ++ held.0) received, held.1)

@@ -1,5 +1,8 @@
 -- Each clause is an example that was reckoned out, cited by name.
-use Rattle.cf_machine.proofs.Refused.{event_zero, past_the_end, out_of_order, before_published, other_body, two_data, gap, repeat, before_subscribed, after_end, short_run, false_recovered, false_lost, read_before_ask, two_on_one_read, without_read, after_break, never_connected, read_after_leaving}
+use Rattle.cf_machine.proofs.Refused.{event_zero, past_the_end, out_of_order, before_published, other_body, two_data}
+use Rattle.cf_machine.proofs.Refused.{gap, repeat, before_subscribed, after_end, short_run, false_recovered, false_lost}
+use Rattle.cf_machine.proofs.Refused.{read_before_ask, two_on_one_read, without_read, after_break, never_connected}
+use Rattle.cf_machine.proofs.Refused.{read_after_leaving}
 use Rattle.cf_machine.proofs.examples.unsafe_traces.Goals as goal
 
 pub returns-clause-event_zero : goal.returns-clause-event_zero

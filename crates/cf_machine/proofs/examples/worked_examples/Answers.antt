@@ -1,5 +1,9 @@
 -- Each clause is an example that was reckoned out, cited by name.
-use Rattle.cf_machine.proofs.Scripts.{first_publication_row, recovered_row, lost_row, buffered_reordering_row, buffered_gap_row, gap_ends_subscription_row, two_breaks_row, three_ignored_row, leave_and_return_row, new_epoch_after_restart_row, delivery_after_node_restart_row, position_check_row, late_but_there_row, no_epoch_yet_row, lists_and_refusals_row}
+use Rattle.cf_machine.proofs.Scripts.{first_publication_row, recovered_row, lost_row, buffered_reordering_row}
+use Rattle.cf_machine.proofs.Scripts.{buffered_gap_row, gap_ends_subscription_row, two_breaks_row, three_ignored_row}
+use Rattle.cf_machine.proofs.Scripts.{leave_and_return_row, new_epoch_after_restart_row}
+use Rattle.cf_machine.proofs.Scripts.{delivery_after_node_restart_row, position_check_row, late_but_there_row}
+use Rattle.cf_machine.proofs.Scripts.{no_epoch_yet_row, lists_and_refusals_row}
 use Rattle.cf_machine.proofs.Slow.{slow_consumer_row, too_much_row}
 use Rattle.cf_machine.proofs.examples.worked_examples.Goals as goal
 

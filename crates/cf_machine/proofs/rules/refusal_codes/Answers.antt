@@ -1,5 +1,7 @@
 -- Each clause is an example that was reckoned out, cited by name.
-use Rattle.cf_machine.proofs.RuleScripts.{unknown_channel_row, permission_denied_row, already_subscribed_row, last_offset_row, channel_128_row, channel_129_row, bad_channel_row, long_text_row, full_node_row}
+use Rattle.cf_machine.proofs.RuleScripts.{unknown_channel_row, permission_denied_row, already_subscribed_row}
+use Rattle.cf_machine.proofs.RuleScripts.{last_offset_row, channel_128_row, channel_129_row, bad_channel_row}
+use Rattle.cf_machine.proofs.RuleScripts.{long_text_row, full_node_row}
 use Rattle.cf_machine.proofs.rules.refusal_codes.Goals as goal
 
 pub returns-clause-unknown_channel : goal.returns-clause-unknown_channel

@@ -1,5 +1,15 @@
 -- Each clause is an example that was reckoned out, cited by name.
-use Rattle.cf_machine.proofs.RuleScripts.{epoch_before_read_row, epoch_after_read_row, epoch_while_live_row, known_while_buffered_row, check_without_stream_row, check_of_another_epoch_row, check_after_delivery_row, delivery_to_one_node_row, restart_of_one_node_row, node_that_is_not_there_row, first_colon_row, list_after_trim_row, trim_above_row, put_opens_row, list_opens_row, epochs_in_order_row, not_ready_row, leaves_refused_row, leaves_waiting_row, forget_before_recovery_row, fresh_again_row, no_such_publication_row, publish_elsewhere_row, missed_300_row, missed_301_row, missed_none_row, missed_beyond_row, arrivals_1000_row, arrivals_1000_suffice_row, arrivals_1001_row, arrivals_1001_fall_short_row, put_without_epoch_row}
+use Rattle.cf_machine.proofs.RuleScripts.{epoch_before_read_row, epoch_after_read_row, epoch_while_live_row}
+use Rattle.cf_machine.proofs.RuleScripts.{known_while_buffered_row, check_without_stream_row}
+use Rattle.cf_machine.proofs.RuleScripts.{check_of_another_epoch_row, check_after_delivery_row}
+use Rattle.cf_machine.proofs.RuleScripts.{delivery_to_one_node_row, restart_of_one_node_row, node_that_is_not_there_row}
+use Rattle.cf_machine.proofs.RuleScripts.{first_colon_row, list_after_trim_row, trim_above_row, put_opens_row}
+use Rattle.cf_machine.proofs.RuleScripts.{list_opens_row, epochs_in_order_row, not_ready_row, leaves_refused_row}
+use Rattle.cf_machine.proofs.RuleScripts.{leaves_waiting_row, forget_before_recovery_row, fresh_again_row}
+use Rattle.cf_machine.proofs.RuleScripts.{no_such_publication_row, publish_elsewhere_row, missed_300_row}
+use Rattle.cf_machine.proofs.RuleScripts.{missed_301_row, missed_none_row, missed_beyond_row, arrivals_1000_row}
+use Rattle.cf_machine.proofs.RuleScripts.{arrivals_1000_suffice_row, arrivals_1001_row, arrivals_1001_fall_short_row}
+use Rattle.cf_machine.proofs.RuleScripts.{put_without_epoch_row}
 use Rattle.cf_machine.proofs.rules.rule_examples.Goals as goal
 
 pub returns-clause-epoch_before_read : goal.returns-clause-epoch_before_read

@@ -3,4 +3,5 @@ use Rattle.cf_node.proofs.dispatcher.dispatch.Goals as goal
 
 pub loop-preserved-then-may : goal.loop-preserved-then-may
 loop-preserved-then-may g c =
-    turn_more g.M.Mailbox.receives g.M.Mailbox.brings g.M.Mailbox.wakes c.args.mailbox.now c.loop.mailbox c.pass_on.new.mailbox c.loop.invariant c.pass_on.ensures
+    turn_more g.M.Mailbox.receives g.M.Mailbox.brings g.M.Mailbox.wakes c.args.mailbox.now c.loop.mailbox
+    c.pass_on.new.mailbox c.loop.invariant c.pass_on.ensures

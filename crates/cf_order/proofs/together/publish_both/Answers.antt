@@ -1,4 +1,5 @@
--- Both branches are one proof: what was joined is what was lent, and each of the two appends gained its share or found the log
+-- Both branches are one proof: what was joined is what was lent, and each of the two appends gained its share or found
+-- the log
 -- full.
 use Rattle.std.proofs.Common.{◌≡◌, ap, ◌∙◌, arith}
 use Rattle.cf_order.proofs.Gaining.{lent_begins, lent_gains}
@@ -24,7 +25,8 @@ returns-else-a-clause-begins g c =
     lent_begins _ _ _ _ _ c.lend-one.ensures.same c.lend-two.ensures.same c.join.ensures.seen.0 c.join-2.ensures.seen.0
 
 pub returns-then-a-clause-full : goal.returns-then-a-clause-full
-returns-then-a-clause-full g c = λ no. omega (arith, c.join-one.ensures.second.1 no, prefix_length _ _ c.join-2.ensures.seen.1)
+returns-then-a-clause-full g c =
+    λ no. omega (arith, c.join-one.ensures.second.1 no, prefix_length _ _ c.join-2.ensures.seen.1)
 
 pub returns-else-a-clause-full : goal.returns-else-a-clause-full
 returns-else-a-clause-full g c = λ no.

@@ -27,10 +27,12 @@ returns c =
     record {
       read = λ k regular.
           let h = request_bodies k.id k.request regular in
-          one_frame_of commands_of k j 62 (parts_of (command h.0 k.id k.request)) (parts_of (command as_it_is k.id k.request)) (command_alike j h.0 k.id k.request h.1) (omega arith)
+          one_frame_of commands_of k j 62 (parts_of (command h.0 k.id k.request))
+          (parts_of (command as_it_is k.id k.request)) (command_alike j h.0 k.id k.request h.1) (omega arith)
           (reads _ (read_command j h.0 k.id k.request h.1) refl);
       alone = λ k ks regular.
           let h = request_bodies k.id k.request regular in
-          no_other_of commands_of k ks j 62 (parts_of (command h.0 k.id k.request)) (parts_of (command as_it_is k.id k.request)) (command_alike j h.0 k.id k.request h.1)
+          no_other_of commands_of k ks j 62 (parts_of (command h.0 k.id k.request))
+          (parts_of (command as_it_is k.id k.request)) (command_alike j h.0 k.id k.request h.1)
           (reads _ (read_command j h.0 k.id k.request h.1) refl);
     }

@@ -26,8 +26,10 @@ returns c =
     record {
       read = λ o regular.
           let h = outgoing_bodies o regular in
-          one_frame_of replies_of o j 64 (parts_of (outgoing h.0 o)) (parts_of (outgoing as_it_is o)) (outgoing_alike j h.0 o h.1) (omega arith) (read_reply j h.0 o h.1);
+          one_frame_of replies_of o j 64 (parts_of (outgoing h.0 o)) (parts_of (outgoing as_it_is o))
+          (outgoing_alike j h.0 o h.1) (omega arith) (read_reply j h.0 o h.1);
       alone = λ o os regular.
           let h = outgoing_bodies o regular in
-          no_other_of replies_of o os j 64 (parts_of (outgoing h.0 o)) (parts_of (outgoing as_it_is o)) (outgoing_alike j h.0 o h.1) (read_reply j h.0 o h.1);
+          no_other_of replies_of o os j 64 (parts_of (outgoing h.0 o)) (parts_of (outgoing as_it_is o))
+          (outgoing_alike j h.0 o h.1) (read_reply j h.0 o h.1);
     }

@@ -5,4 +5,7 @@ use Rattle.cf_protocol.proofs.laws.text_lengths.Goals as goal
 
 pub returns : goal.returns
 unfolding command_text outgoing_text
-returns c = record { commands = λ k. length-compact (command_tree as_it_is k); outgoing = λ o. length-compact (outgoing_tree as_it_is o) }
+returns c = record {
+  commands = λ k. length-compact (command_tree as_it_is k);
+  outgoing = λ o. length-compact (outgoing_tree as_it_is o);
+}

@@ -10,7 +10,10 @@ pub returns-then-not-is_word : goal.returns-then-not-is_word
 returns-then-not-is_word c = namespace_misnamed c.args.text.now _ _ c.in_ok-name.ensures (sym c.if-not-is_word.ensures)
 
 pub returns-in_err-settings : goal.returns-in_err-settings
-returns-in_err-settings c = rw c.from_residual-in_err-settings.ensures (namespace_unset c.args.text.now _ _ c.in_ok-name.ensures c.in_err-settings.ensures)
+returns-in_err-settings c =
+    rw c.from_residual-in_err-settings.ensures (namespace_unset c.args.text.now _ _ c.in_ok-name.ensures
+    c.in_err-settings.ensures)
 
 pub returns : goal.returns
-returns c = namespace_found c.args.text.now _ _ c.in_ok-settings.settings c.in_ok-name.ensures (sym c.if-not-is_word.ensures) c.in_ok-settings.ensures
+returns c = namespace_found c.args.text.now _ _ c.in_ok-settings.settings c.in_ok-name.ensures
+    (sym c.if-not-is_word.ensures) c.in_ok-settings.ensures

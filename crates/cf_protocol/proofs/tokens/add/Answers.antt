@@ -1,4 +1,5 @@
--- An entry that can't be read, or whose token stands already, is refused as the definition does; else it is pushed behind the
+-- An entry that can't be read, or whose token stands already, is refused as the definition does; else it is pushed
+-- behind the
 -- others.
 use Rattle.std.proofs.Common.{sym, ap, ◌∙◌, ◌∷◌, [], ◌++◌, subst, ◌≡◌}
 use Rattle.std.specs.Prelude.{None}
@@ -17,8 +18,10 @@ returns-in_default c = λ e h fresh. c.in_default.ensures e h
 pub returns-then-is_some : goal.returns-then-is_some
 returns-then-is_some c = λ e h fresh.
     let same = one_token c.args.text.now e (c.in-Some.token.now, c.in-Some.user.now) h c.in-Some.ensures in
-    stands c.value_of.result (entry_at (named c.args.entries.now.items) c.in-Some.token.now) c.value_of.ensures (sym c.if-is_some.ensures)
-    (absent_named c.args.entries.now.items c.in-Some.token.now (subst (λ f. entry_at (in_bytes c.args.entries.now.items) f.0 ≡ None) same fresh))
+    stands c.value_of.result (entry_at (named c.args.entries.now.items) c.in-Some.token.now) c.value_of.ensures
+    (sym c.if-is_some.ensures)
+    (absent_named c.args.entries.now.items c.in-Some.token.now
+    (subst (λ f. entry_at (in_bytes c.args.entries.now.items) f.0 ≡ None) same fresh))
 
 pub returns : goal.returns
 returns c =
@@ -26,10 +29,13 @@ returns c =
     let new = c.push.new.self.items in
     let token = c.in_ok-token.token in
     let user = c.in_ok-user.user in
-    pushed IsToken c.args.text.now (in_bytes old) (in_bytes new) (c.in-Some.token.now, c.in-Some.user.now) c.push.result c.map_err.result _ new _ _ c.map_err.ensures.cases (λ _ _ is. is) c.push.ensures.items
+    pushed IsToken c.args.text.now (in_bytes old) (in_bytes new) (c.in-Some.token.now, c.in-Some.user.now) c.push.result
+    c.map_err.result _ new _ _ c.map_err.ensures.cases (λ _ _ is. is) c.push.ensures.items
     (λ more.
     ap in_bytes more
     ∙ map-append (λ e. (string_bytes e.0, string_bytes e.1)) old ((token, user) ∷ [])
     ∙ ap (λ t. in_bytes old ++ (t, string_bytes user) ∷ []) c.in_ok-token.ensures.ok
     ∙ ap (λ u. in_bytes old ++ (c.in-Some.token.now, u) ∷ []) c.in_ok-user.ensures.ok)
-    c.in-Some.ensures (absent_in_bytes old c.in-Some.token.now (stands_not c.value_of.result (entry_at (named old) c.in-Some.token.now) c.value_of.ensures (sym c.if-is_some.ensures)))
+    c.in-Some.ensures (absent_in_bytes old c.in-Some.token.now
+    (stands_not c.value_of.result (entry_at (named old) c.in-Some.token.now) c.value_of.ensures
+    (sym c.if-is_some.ensures)))

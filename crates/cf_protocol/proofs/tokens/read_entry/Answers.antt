@@ -13,4 +13,5 @@ pub returns-then-not-is_name-2 : goal.returns-then-not-is_name-2
 returns-then-not-is_name-2 c = token_unused c.args.text.now _ _ c.in_ok-token.ensures (sym c.if-not-is_name-2.ensures)
 
 pub returns : goal.returns
-returns c = token_found c.args.text.now _ _ c.in_ok-token.ensures (sym c.if-not-is_name.ensures) (sym c.if-not-is_name-2.ensures)
+returns c = token_found c.args.text.now _ _ c.in_ok-token.ensures (sym c.if-not-is_name.ensures)
+    (sym c.if-not-is_name-2.ensures)

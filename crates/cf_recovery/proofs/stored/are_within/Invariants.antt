@@ -6,4 +6,6 @@ use Rattle.cf_recovery.specs.Stored.{stored}
 use Rattle.cf_recovery.proofs.stored.are_within.Given as goal
 
 abbrev pub invariant-loop-i : goal.invariant-loop-i
-invariant-loop-i l = all_within (places (stored l.epochs l.publications)) l.at.epoch (l.at.offset + l.ahead) ≡ all_within (places (stored (drop l.i l.epochs) (drop l.i l.publications))) l.at.epoch (l.at.offset + l.ahead)
+invariant-loop-i l =
+    all_within (places (stored l.epochs l.publications)) l.at.epoch (l.at.offset + l.ahead)
+    ≡ all_within (places (stored (drop l.i l.epochs) (drop l.i l.publications))) l.at.epoch (l.at.offset + l.ahead)

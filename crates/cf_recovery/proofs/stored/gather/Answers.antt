@@ -1,4 +1,5 @@
--- The loop keeps that so many in front are the run; one that follows is swapped behind them, and without one there is a gap.
+-- The loop keeps that so many in front are the run; one that follows is swapped behind them, and without one there is a
+-- gap.
 use Rattle.cf_recovery.proofs.Storing.{gathered_more, gathered_all}
 use Rattle.cf_recovery.proofs.stored.gather.Goals as goal
 

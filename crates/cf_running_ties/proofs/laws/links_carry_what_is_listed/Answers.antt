@@ -12,7 +12,9 @@ pub returns-clause-stays : goal.returns-clause-stays
 returns-clause-stays c = stays
 
 pub returns-clause-offered : goal.returns-clause-offered
-returns-clause-offered c = λ nodes count channel position datum first last old new left h n. offered channel position datum nodes count first last old new left h n
+returns-clause-offered c =
+    λ nodes count channel position datum first last old new left h n. offered channel position datum nodes count first
+    last old new left h n
 
 pub returns-clause-sent : goal.returns-clause-sent
 returns-clause-sent c = sends

@@ -5,4 +5,6 @@ pub returns-clause-sources : goal.returns-clause-sources
 returns-clause-sources c = none-twice c.told_apart.ensures
 
 pub returns-clause-once : goal.returns-clause-once
-returns-clause-once c = λ source log before channel epoch fresh begins is. once-by-log channel epoch before log (fresh (none-twice c.told_apart.ensures)).once begins is
+returns-clause-once c =
+    λ source log before channel epoch fresh begins is. once-by-log channel epoch before log
+    (fresh (none-twice c.told_apart.ensures)).once begins is

@@ -22,7 +22,8 @@ pub returns-clause-sizes : goal.returns-clause-sizes
 returns-clause-sizes c = sizes
 
 pub returns-clause-reads : goal.returns-clause-reads
-returns-clause-reads c = λ config k log channel since p recovered items l is r e. reads config k log is channel since p recovered items l r e
+returns-clause-reads c =
+    λ config k log channel since p recovered items l is r e. reads config k log is channel since p recovered items l r e
 
 pub returns-clause-ticks : goal.returns-clause-ticks
 returns-clause-ticks c = λ config k log now is. ticks config k log is now

@@ -10,19 +10,23 @@ returns-clause-starts c = starts
 
 pub returns-clause-delivers : goal.returns-clause-delivers
 returns-clause-delivers c = λ is_aside site s n numbers old new x h first d.
-    delivers is_aside site s n numbers old new h x (c.hub_moves_are_sections.ensures is_aside (lists_of site s)) d first (past old.sessions) (bounded old)
+    delivers is_aside site s n numbers old new h x (c.hub_moves_are_sections.ensures is_aside (lists_of site s)) d first
+    (past old.sessions) (bounded old)
 
 pub returns-clause-ticks : goal.returns-clause-ticks
 returns-clause-ticks c = λ is_aside site s n now numbers old new h d.
-    ticks is_aside site s n numbers old new h now (c.hub_moves_are_sections.ensures is_aside (lists_of site s)) d (past old.sessions) (bounded old)
+    ticks is_aside site s n numbers old new h now (c.hub_moves_are_sections.ensures is_aside (lists_of site s)) d
+    (past old.sessions) (bounded old)
 
 pub returns-clause-attaches : goal.returns-clause-attaches
 returns-clause-attaches c = λ is_aside site s n j now numbers old new user client h o none seat there.
-    attaches is_aside site s n numbers old h new j now user (c.hub_moves_are_sections.ensures is_aside (lists_of site s)) o none client seat there
+    attaches is_aside site s n numbers old h new j now user
+    (c.hub_moves_are_sections.ensures is_aside (lists_of site s)) o none client seat there
 
 pub returns-clause-wanders : goal.returns-clause-wanders
 returns-clause-wanders c = λ is_aside site s n j now numbers old new user h o none there.
-    wanders is_aside site s n numbers old h new j now user (c.hub_moves_are_sections.ensures is_aside (lists_of site s)) o none there
+    wanders is_aside site s n numbers old h new j now user (c.hub_moves_are_sections.ensures is_aside (lists_of site s))
+    o none there
 
 pub returns-clause-one : goal.returns-clause-one
 returns-clause-one c = λ is_aside site s n j k numbers old new f a h at others is node attached says.

@@ -9,7 +9,8 @@ short_key : (key : List ℕ) → length key ≤ 64 → is_bad_key key ≡ false
 short_key key l = search (rules, l)
 
 -- name, key and data are well
-passes : (a k d : Bool) (e f : ErrorCode) (rest : List Check) → a ≡ false → k ≡ false → d ≡ false → first_failed ((a, e) ∷ (k || d, f) ∷ rest) ≡ first_failed rest
+passes : (a k d : Bool) (e f : ErrorCode) (rest : List Check) → a ≡ false → k ≡ false → d ≡ false
+    → first_failed ((a, e) ∷ (k || d, f) ∷ rest) ≡ first_failed rest
 passes true k d e f rest h i j = absurd (cc)
 passes false true d e f rest h i j = absurd (cc)
 passes false false true e f rest h i j = absurd (cc)

@@ -9,7 +9,8 @@ pub returns-clause-hears : goal.returns-clause-hears
 returns-clause-hears c = λ long.
     let old = c.args.session.now in
     let new = c.on_text.new.self in
-    hears_long (tables_of old) (progress_of old) c.args.text.now (progress_of new) (refusals new) c.on_text.ensures.hears
+    hears_long (tables_of old) (progress_of old) c.args.text.now (progress_of new) (refusals new)
+    c.on_text.ensures.hears
     (long_now (met_refused_memory old) (met_refused_memory new) (refusals new) c.on_text.ensures.keeps.short long)
 
 pub returns-clause-ready : goal.returns-clause-ready
@@ -17,9 +18,11 @@ returns-clause-ready c =
     let old = c.args.session.now in
     let new = c.on_text.new.self in
     record {
-      awaits = hears_awaits (tables_of old) (progress_of old) c.args.text.now (progress_of new) (refusals new) c.on_text.ensures.hears;
+      awaits = hears_awaits (tables_of old) (progress_of old) c.args.text.now (progress_of new) (refusals new)
+          c.on_text.ensures.hears;
       asks = subst (λ (t : Tables). AskStreams t.namespaces (progress_of new)) (sym c.on_text.ensures.keeps.tables)
-          (hears_asks (tables_of old) (progress_of old) c.args.text.now (progress_of new) (refusals new) c.frames_have_streams.ensures c.on_text.ensures.hears);
+          (hears_asks (tables_of old) (progress_of old) c.args.text.now (progress_of new) (refusals new)
+          c.frames_have_streams.ensures c.on_text.ensures.hears);
     }
 
 pub returns-clause-keeps : goal.returns-clause-keeps
@@ -28,5 +31,6 @@ returns-clause-keeps c =
     let new = c.on_text.new.self in
     record {
       tables = c.on_text.ensures.keeps.tables;
-      short = short_stays (met_refused_memory old) (met_refused_memory new) (refusals new) c.on_text.ensures.keeps.short;
+      short = short_stays (met_refused_memory old) (met_refused_memory new) (refusals new)
+          c.on_text.ensures.keeps.short;
     }

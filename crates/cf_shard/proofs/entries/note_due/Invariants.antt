@@ -5,7 +5,8 @@ use Rattle.cf_shard.proofs.entries.note_due.Given as goal
 
 abbrev pub invariant-due : goal.invariant-due
 invariant-due l =
-    (l.owner.log ++ due_entries l.rest ≡ l.initial.owner.log ++ due_entries l.initial.rest) × (l.owner.word ≡ l.initial.owner.word) × (length l.owner.log + length l.rest ≤ 2 ^ 62)
+    (l.owner.log ++ due_entries l.rest ≡ l.initial.owner.log ++ due_entries l.initial.rest)
+    × (l.owner.word ≡ l.initial.owner.word) × (length l.owner.log + length l.rest ≤ 2 ^ 62)
     × HasWhole l.pass l.owner.log × KeepsShare l.initial.pass l.pass 0
 
 abbrev pub decreases-due : goal.decreases-due

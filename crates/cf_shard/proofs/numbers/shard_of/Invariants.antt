@@ -2,4 +2,5 @@ use Rattle.std.proofs.Common.{◌≡◌, ◌<◌, ◌%◌, sum, take}
 use Rattle.cf_shard.proofs.numbers.shard_of.Given as goal
 
 abbrev pub invariant-loop-byte : goal.invariant-loop-byte
-invariant-loop-byte l = (l.number < 16) × (l.byte-items ≡ l.channel) × (l.number ≡ sum (take l.byte-index l.byte-items) % 16)
+invariant-loop-byte l =
+    (l.number < 16) × (l.byte-items ≡ l.channel) × (l.number ≡ sum (take l.byte-index l.byte-items) % 16)

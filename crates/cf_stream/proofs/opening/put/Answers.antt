@@ -8,5 +8,6 @@ use Rattle.cf_stream.proofs.opening.put.Goals as goal
 
 pub returns-in-Ok-clause-ok : goal.returns-in-Ok-clause-ok
 returns-in-Ok-clause-ok c =
-    λ q. btree_map_updates_text (string_bytes c.in_ok-key.key) c.args.map.now c.insert.new.self (Some c.args.stream) c.in-Ok.ensures.updates q
+    λ q. btree_map_updates_text (string_bytes c.in_ok-key.key) c.args.map.now c.insert.new.self (Some c.args.stream)
+    c.in-Ok.ensures.updates q
     ∙ ap (λ bs. update bytes_eq (get_by_text c.args.map.now) bs (Some c.args.stream) q) c.in_ok-key.ensures.ok

@@ -7,4 +7,5 @@ use Rattle.cf_stream.proofs.streams.first_due.Goals as goal
 pub returns : goal.returns
 returns c =
     entries_quiet c.loop-channel.until c.args.namespaces.now c.args.map.now c.iter-channel-items.ensures.ordered
-    (λ t early. sym (c.loop-channel.invariant t early) ∙ ap (λ es. due_channels t c.args.namespaces.now (by_bytes es)) c.in-None.ensures.steps.0)
+    (λ t early. sym (c.loop-channel.invariant t early)
+    ∙ ap (λ es. due_channels t c.args.namespaces.now (by_bytes es)) c.in-None.ensures.steps.0)

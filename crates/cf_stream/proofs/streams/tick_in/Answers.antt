@@ -7,4 +7,5 @@ use Rattle.cf_stream.proofs.streams.tick_in.Goals as goal
 
 pub returns-clause-entries : goal.returns-clause-entries
 returns-clause-entries c =
-    map_filter_same_pairs _ (λ k. ticked c.args.now (seconds_at c.args.namespaces.now (string_bytes k))) (stays c.args.now) _ (λ k v b w f' t. search rules) _ _ c.retain.ensures.filtered
+    map_filter_same_pairs _ (λ k. ticked c.args.now (seconds_at c.args.namespaces.now (string_bytes k)))
+    (stays c.args.now) _ (λ k v b w f' t. search rules) _ _ c.retain.ensures.filtered

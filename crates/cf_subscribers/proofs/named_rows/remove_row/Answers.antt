@@ -9,16 +9,20 @@ pub returns-then-not-has_channel-clause-used : goal.returns-then-not-has_channel
 returns-then-not-has_channel-clause-used c =
     let none : has_channel c.remove-found.new.self c.args.channel ≡ false = search rules in
     rw c.remove-found.ensures.removed
-    (covers_last (name_at c.args.names.now) (name_at c.remove.new.self) c.args.rows.now c.args.channel c.args.session c.requires.used (sym (ap (λ l. has_channel l c.args.channel) c.remove-found.ensures.removed) ∙ none) c.remove.ensures.gone)
+    (covers_last (name_at c.args.names.now) (name_at c.remove.new.self) c.args.rows.now c.args.channel c.args.session
+    c.requires.used (sym (ap (λ l. has_channel l c.args.channel) c.remove-found.ensures.removed) ∙ none)
+    c.remove.ensures.gone)
 
 pub returns-then-not-has_channel-clause-removed : goal.returns-then-not-has_channel-clause-removed
 returns-then-not-has_channel-clause-removed c =
     let none : has_channel c.remove-found.new.self c.args.channel ≡ false = search rules in
-    named_elsewhere (name_at c.args.names.now) (name_at c.remove.new.self) c.args.channel None c.remove.ensures.gone c.remove-found.new.self none
+    named_elsewhere (name_at c.args.names.now) (name_at c.remove.new.self) c.args.channel None c.remove.ensures.gone
+    c.remove-found.new.self none
     ∙ ap (by_name (name_at c.args.names.now)) c.remove-found.ensures.removed
 
 pub returns-else-not-has_channel-clause-used : goal.returns-else-not-has_channel-clause-used
 returns-else-not-has_channel-clause-used c =
     let some : has_channel c.remove-found.new.self c.args.channel ≡ true = search rules in
     rw c.remove-found.ensures.removed
-    (covers_less (name_at c.args.names.now) c.args.rows.now c.args.channel c.args.session c.requires.used (sym (ap (λ l. has_channel l c.args.channel) c.remove-found.ensures.removed) ∙ some))
+    (covers_less (name_at c.args.names.now) c.args.rows.now c.args.channel c.args.session c.requires.used
+    (sym (ap (λ l. has_channel l c.args.channel) c.remove-found.ensures.removed) ∙ some))

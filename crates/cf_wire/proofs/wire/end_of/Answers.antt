@@ -11,4 +11,5 @@ of_stream _ h = refl
 
 pub returns-in_default-kind : goal.returns-in_default-kind
 returns-in_default-kind c =
-    of_stream c.kind.result c.in_default-kind.not-OutOfMemory ∙ ap end_by_kind c.kind.ensures ∙ ap end_by (sym c.in-Io.is)
+    of_stream c.kind.result c.in_default-kind.not-OutOfMemory ∙ ap end_by_kind c.kind.ensures
+    ∙ ap end_by (sym c.in-Io.is)

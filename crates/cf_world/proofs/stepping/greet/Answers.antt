@@ -19,7 +19,8 @@ returns c =
     let z = c.next-3.new.session in
     let long : met_refused_memory heard ≡ false = sym c.short.ensures ∙ c.if-short.false in
     let hears = hears-long (tables_of s) (progress_of s) c.args.text.now (progress_of heard) (refusals heard)
-    c.on_text.ensures.hears (long-now (met_refused_memory s) (met_refused_memory heard) (refusals heard) c.on_text.ensures.keeps.short
+    c.on_text.ensures.hears (long-now (met_refused_memory s) (met_refused_memory heard) (refusals heard)
+    c.on_text.ensures.keeps.short
     long) in
     let asks : c.in_ok-next.field-0 ≡ Some (action.Attach c.in-Some-Attach.field-0-0) = search rules in
     let says : c.in_ok-reply.field-0 ≡ Some (action.Say c.in-Some-Say.reply) = search rules in

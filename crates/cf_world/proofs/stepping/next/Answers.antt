@@ -19,6 +19,7 @@ returns c =
       stays = record { tables = c.next_action-action.ensures.keeps.tables; long = long };
       does = acts-does (tables_of s) (progress_of s) (option_map shown_action c.next_action-action.result)
           (progress_of t) (refusals t) c.next_action-action.ensures.acts
-          (long-now (met_refused_memory s) (met_refused_memory t) (refusals t) c.next_action-action.ensures.keeps.short long);
+          (long-now (met_refused_memory s) (met_refused_memory t) (refusals t) c.next_action-action.ensures.keeps.short
+          long);
       idle = λ none rests. c.next_action-action.ensures.idle (map-none c.next_action-action.result none) rests;
     }

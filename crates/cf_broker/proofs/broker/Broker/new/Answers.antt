@@ -7,4 +7,5 @@ pub new-requires : goal.new-requires
 new-requires g c = firsts_named g.N.Naming.words _ _ c.words.invariant (c.words.view_is ∙ c.requires.words)
 
 pub returns-clause-passes : goal.returns-clause-passes
-returns-clause-passes g c = c.new.ensures ∙ (c.words.invariant ∙ ap (map first_pass) (c.words.view_is ∙ c.requires.words))
+returns-clause-passes g c =
+    c.new.ensures ∙ (c.words.invariant ∙ ap (map first_pass) (c.words.view_is ∙ c.requires.words))

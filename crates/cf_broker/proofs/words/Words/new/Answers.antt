@@ -3,4 +3,5 @@ use Rattle.cf_broker.proofs.Numbers.{names_self}
 use Rattle.cf_broker.proofs.words.Words.new.Goals as goal
 
 pub returns : goal.returns
-returns c = names_self c.loop-number.list.items 16 (omega (arith, c.loop-number.invariant.0, c.loop-number-test.false, c.loop-number.auto._number-end))
+returns c = names_self c.loop-number.list.items 16
+    (omega (arith, c.loop-number.invariant.0, c.loop-number-test.false, c.loop-number.auto._number-end))

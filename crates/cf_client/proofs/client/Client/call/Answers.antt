@@ -11,10 +11,13 @@ pub invariant_of-self-2 : goal.invariant_of-self-2
 invariant_of-self-2 c =
     let k = c.self.inside.known in
     let next = rw (← c.self.view_is) at c.requires in
-    let goes = called_path k c.push.new.self c.args.id c.in_ok-channel.channel c.args.channel.now c.in_ok-push.ensures.items next c.in_ok-channel.ensures.ok in
-    subst (λ (s : State). AreApart s.client) (sym goes) (called_apart c.args.channel.now (known_state k) c.self.invariant)
+    let goes = called_path k c.push.new.self c.args.id c.in_ok-channel.channel c.args.channel.now
+    c.in_ok-push.ensures.items next c.in_ok-channel.ensures.ok in
+    subst (λ (s : State). AreApart s.client) (sym goes)
+    (called_apart c.args.channel.now (known_state k) c.self.invariant)
 
 pub returns-clause-ok : goal.returns-clause-ok
 returns-clause-ok c =
     let next = rw (← c.self.view_is) at c.requires in
-    rw (← c.self.view_is) (called_path c.self.inside.known c.push.new.self c.args.id c.in_ok-channel.channel c.args.channel.now c.in_ok-push.ensures.items next c.in_ok-channel.ensures.ok)
+    rw (← c.self.view_is) (called_path c.self.inside.known c.push.new.self c.args.id c.in_ok-channel.channel
+    c.args.channel.now c.in_ok-push.ensures.items next c.in_ok-channel.ensures.ok)

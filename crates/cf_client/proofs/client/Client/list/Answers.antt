@@ -9,13 +9,18 @@ use Rattle.cf_client.proofs.client.Client.list.Goals as goal
 pub returns-clause-text : goal.returns-clause-text
 returns-clause-text c =
     c.in_ok-text.ensures.text
-    ∙ (λ i. command_text (record { id = c.in_ok-id.ensures.ok i; request = request.History (c.in_ok-name.ensures.ok i) (to_z-of_z w32 c.args.limit c.ranges.limit i) None false }))
+    ∙ (λ i. command_text (record {
+      id = c.in_ok-id.ensures.ok i;
+      request = request.History (c.in_ok-name.ensures.ok i) (to_z-of_z w32 c.args.limit c.ranges.limit i) None false;
+    }))
 
 pub returns-in_err-id-clause-refused : goal.returns-in_err-id-clause-refused
-returns-in_err-id-clause-refused c = refused_as _ c.from_residual.result c.in_err-id.field-0.0 c.in_err-id.ensures.err c.from_residual.ensures.1
+returns-in_err-id-clause-refused c =
+    refused_as _ c.from_residual.result c.in_err-id.field-0.0 c.in_err-id.ensures.err c.from_residual.ensures.1
 
 pub returns-in_err-text-clause-refused : goal.returns-in_err-text-clause-refused
-returns-in_err-text-clause-refused c = refused_memory _ c.from_residual-in_err-text.result c.in_ok-id.ensures.may c.from_residual-in_err-text.ensures.1
+returns-in_err-text-clause-refused c =
+    refused_memory _ c.from_residual-in_err-text.result c.in_ok-id.ensures.may c.from_residual-in_err-text.ensures.1
 
 pub returns-clause-refused : goal.returns-clause-refused
 returns-clause-refused c = refused_not _ c.in_ok-text.text c.in_ok-id.ensures.may

@@ -8,6 +8,10 @@ pub returns : goal.returns
 returns c =
     rw (← c.self.view_is) (λ i. record {
       connected = false;
-      client = record { fresh = 2; modes = λ d. c.make_idle.ensures d i; calls = ids_of (calls_of (c.clear.ensures.items i)) };
+      client = record {
+        fresh = 2;
+        modes = λ d. c.make_idle.ensures d i;
+        calls = ids_of (calls_of (c.clear.ensures.items i));
+      };
       out = calls_of (c.clear.ensures.items i);
     })

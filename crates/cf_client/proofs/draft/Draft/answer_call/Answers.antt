@@ -15,10 +15,15 @@ returns-clause-found c =
     let test : list_any (λ i. i == c.args.id) ids ≡ c.contains.result = search rules in
     let after = found_after c.args.id ids ks ∙ ap (λ (b : Bool). if b then None else channel_under c.args.id ks) test in
     elim c.if-contains.branch [
-      | then-contains w ↦ ap (λ o. option_map (λ s. s.now) o) w.found-is ∙ sym (after ∙ ap (λ (b : Bool). if b then None else channel_under c.args.id ks) w.if-contains.true)
+      | then-contains w ↦
+          ap (λ o. option_map (λ s. s.now) o) w.found-is
+          ∙ sym (after ∙ ap (λ (b : Bool). if b then None else channel_under c.args.id ks) w.if-contains.true)
       | else-contains w ↦
-          ap (λ o. option_map (λ s. s.now) o) w.found-is ∙ w.channel_called-found.ensures ∙ sym (after ∙ ap (λ (b : Bool). if b then None else channel_under c.args.id ks) w.if-contains.false)
+          ap (λ o. option_map (λ s. s.now) o) w.found-is ∙ w.channel_called-found.ensures
+          ∙ sym (after ∙ ap (λ (b : Bool). if b then None else channel_under c.args.id ks) w.if-contains.false)
     ]
 
 pub returns-clause-answered : goal.returns-clause-answered
-returns-clause-answered c = answered_more c.args.known.now c.args.self.now (record c.args.self.now { answered = c.push.new.self }) c.args.id refl c.in_ok-push.ensures.items
+returns-clause-answered c =
+    answered_more c.args.known.now c.args.self.now (record c.args.self.now { answered = c.push.new.self }) c.args.id
+    refl c.in_ok-push.ensures.items

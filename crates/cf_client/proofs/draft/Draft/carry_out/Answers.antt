@@ -1,4 +1,5 @@
--- The loop moves one changed mode after another into the map, and keeps that what is drafted stays the same for each channel.
+-- The loop moves one changed mode after another into the map, and keeps that what is drafted stays the same for each
+-- channel.
 use Rattle.std.proofs.Common.{◌≡◌, ◌∙◌, ◌==◌, not, None, [], List, ℕ, ap, refl, subst, if◌then◌else◌, rules}
 use Rattle.std.proofs.lemmas.Fn.{filter_same}
 use Rattle.std.proofs.lemmas.List.{nil_from_length}
@@ -19,7 +20,8 @@ loop-channel-init c =
       connected = refl;
       last = refl;
       modes = λ d. refl;
-      calls = ap calls_of (filter_same _ (λ k. not (list_any (λ i. i == k.id) ids)) _ (λ x b f' h. search rules) c.args.known.now.calls.items c.retain.new.self.items c.retain.ensures.filtered)
+      calls = ap calls_of (filter_same _ (λ k. not (list_any (λ i. i == k.id) ids)) _ (λ x b f' h. search rules)
+          c.args.known.now.calls.items c.retain.new.self.items c.retain.ensures.filtered)
           ∙ calls_kept ids c.args.known.now.calls.items;
     }
 
@@ -31,11 +33,14 @@ loop-channel-preserved c =
     let all = c.loop-channel.changed in
     let rest = c.pop_last.new.self in
     let name = string_bytes c.in-Some.channel in
-    let each = subst (λ (n : List ℕ). (q : List ℕ) → get_by_text new q ≡ option_map (λ v. if bytes_eq n q then c.in-Some.mode else v) (get_by_text base q)) c.as_str.ensures.value c.set_mode.ensures.each in
+    let each = subst (λ (n : List ℕ). (q : List ℕ)
+    → get_by_text new q ≡ option_map (λ v. if bytes_eq n q then c.in-Some.mode else v) (get_by_text base q))
+    c.as_str.ensures.value c.set_mode.ensures.each in
     record {
       connected = was.connected;
       last = was.last;
-      modes = λ d. carried_out_one base new all rest name c.in-Some.mode each (btree_map_updates_text name all rest None c.in-Some.ensures.updates) c.in-Some.ensures.value d ∙ was.modes d;
+      modes = λ d. carried_out_one base new all rest name c.in-Some.mode each
+          (btree_map_updates_text name all rest None c.in-Some.ensures.updates) c.in-Some.ensures.value d ∙ was.modes d;
       calls = was.calls;
     }
 

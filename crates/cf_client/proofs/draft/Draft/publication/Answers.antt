@@ -17,8 +17,14 @@ returns-in_default c =
     let base = c.args.known.now.channels in
     let old = c.args.self.now.changed in
     let name = string_bytes c.args.channel in
-    let found : shown_mode c.mode_at.result ≡ drafted_mode base old name = subst (λ (n : List ℕ). shown_mode c.mode_at.result ≡ drafted_mode base old n) c.as_str.ensures.value c.mode_at.ensures in
-    ([], passes_publication name c.args.publication (drafted_mode base old name) (drafted c.args.known.now c.args.self.now) (not_live c.mode_at.result _ found c.in_default.not-Live), sym (append-nil _))
+    let found : shown_mode c.mode_at.result ≡ drafted_mode base old name =
+    subst (λ (n : List ℕ). shown_mode c.mode_at.result ≡ drafted_mode base old n) c.as_str.ensures.value
+    c.mode_at.ensures in (
+      [],
+      passes_publication name c.args.publication (drafted_mode base old name)
+          (drafted c.args.known.now c.args.self.now) (not_live c.mode_at.result _ found c.in_default.not-Live),
+      sym (append-nil _),
+    )
 
 pub returns : goal.returns
 returns c =
@@ -30,15 +36,21 @@ returns c =
     let q = c.args.publication in
     let p = c.in-Live.at in
     let told = published name p.epoch q in
-    let found : shown_mode c.mode_at.result ≡ drafted_mode base old name = subst (λ (n : List ℕ). shown_mode c.mode_at.result ≡ drafted_mode base old n) c.as_str.ensures.value c.mode_at.ensures in
+    let found : shown_mode c.mode_at.result ≡ drafted_mode base old name =
+    subst (λ (n : List ℕ). shown_mode c.mode_at.result ≡ drafted_mode base old n) c.as_str.ensures.value
+    c.mode_at.ensures in
     let live : drafted_mode base old name ≡ Live p = live_at c.mode_at.result _ p found c.in-Live.is in
     let sets = moves_live k c.args.self.now to _ name p _ c.as_str-2.ensures.value live (c.in_ok-put.ensures.moved k) in
-    let goes : drafted k to ≡ moves name (Live (record { epoch = p.epoch; offset = q.offset })) (drafted k c.args.self.now) =
-    subst (λ o. drafted k to ≡ moves name (Live (record { epoch = p.epoch; offset = o })) (drafted k c.args.self.now)) (ap (λ x. x.offset) c.publication.view_is) sets in
+    let goes : drafted k to ≡ moves name (Live (record { epoch = p.epoch; offset = q.offset }))
+    (drafted k c.args.self.now) =
+    subst (λ o. drafted k to ≡ moves name (Live (record { epoch = p.epoch; offset = o })) (drafted k c.args.self.now))
+    (ap (λ x. x.offset) c.publication.view_is) sets in
     let says : shown_item c.passed.result ≡ told = c.passed.ensures in
     on_ok_weaker c.tell.result (λ tells. (
       told ∷ [],
-      takes_publication name q (drafted_mode base old name) p (drafted c.args.known.now c.args.self.now) _ live (ap (drafted k) c.tell.ensures.same ∙ goes),
-      told_next c.args.self.now.events.items c.put.new.self.events.items c.tell.new.self.events.items c.passed.result told (ap (λ v. v.items) c.put.ensures.events) tells says,
+      takes_publication name q (drafted_mode base old name) p (drafted c.args.known.now c.args.self.now) _ live
+          (ap (drafted k) c.tell.ensures.same ∙ goes),
+      told_next c.args.self.now.events.items c.put.new.self.events.items c.tell.new.self.events.items c.passed.result
+          told (ap (λ v. v.items) c.put.ensures.events) tells says,
     ))
     c.tell.ensures.told

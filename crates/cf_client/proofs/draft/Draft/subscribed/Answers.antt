@@ -22,11 +22,16 @@ returns c =
     let asks = c.in-Some.ensures.some in
     let sub = Subscribed name c.args.was_recovering c.args.recovered at in
     let pubs = map (published name at.epoch) c.args.publications.items in
-    let goes = ap (drafted k) c.tell.ensures.same ∙ moves_asking k c.args.self.now c.put.new.self _ name c.args.id (Live at) refl asks (c.in_ok-put.ensures.moved k) in
+    let goes = ap (drafted k) c.tell.ensures.same
+    ∙ moves_asking k c.args.self.now c.put.new.self _ name c.args.id (Live at) refl asks
+    (c.in_ok-put.ensures.moved k) in
     on_ok_weaker c.pass_all.result (λ passed. (
       sub ∷ pubs,
       inl (record { channel = name; asks = asks; moves = goes; tells = refl }),
       told_reply c.args.self.now.events.items c.tell.new.self.events.items c.pass_all.new.events.items sub pubs
-          (told_next c.args.self.now.events.items c.put.new.self.events.items c.tell.new.self.events.items _ sub (ap (λ v. v.items) c.put.ensures.events) c.in_ok-tell.ensures.told (ap (λ (n : List ℕ). Subscribed n c.args.was_recovering c.args.recovered at) c.in_ok-name.ensures.ok)) passed,
+          (told_next c.args.self.now.events.items c.put.new.self.events.items c.tell.new.self.events.items _ sub
+          (ap (λ v. v.items) c.put.ensures.events) c.in_ok-tell.ensures.told
+          (ap (λ (n : List ℕ). Subscribed n c.args.was_recovering c.args.recovered at) c.in_ok-name.ensures.ok))
+          passed,
     ))
     c.pass_all.ensures

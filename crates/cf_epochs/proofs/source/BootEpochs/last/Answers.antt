@@ -16,5 +16,13 @@ pub returns-clause-text : goal.returns-clause-text
 returns-clause-text c =
     let known : IsSource c.args.self.now = rw (← c.self.view_is) (search rules) in
     let text : c.as_str.result.now ≡ epoch_at c.args.self.now =
-    rw (c.as_str.ensures.value, c.push_str-5.ensures.bytes, c.push_str-4.ensures.bytes, c.push_str-3.ensures.bytes, c.push_str-2.ensures.bytes, c.push_str.ensures.bytes, c.new-text.ensures) (search (rules, spelled)) in
+    rw (
+      c.as_str.ensures.value,
+      c.push_str-5.ensures.bytes,
+      c.push_str-4.ensures.bytes,
+      c.push_str-3.ensures.bytes,
+      c.push_str-2.ensures.bytes,
+      c.push_str.ensures.bytes,
+      c.new-text.ensures,
+    ) (search (rules, spelled)) in
     rw (c.from_text.ensures, text) (epoch_of-epoch_at c.args.self.now known)

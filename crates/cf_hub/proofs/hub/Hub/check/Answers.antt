@@ -14,16 +14,27 @@ use Rattle.cf_hub.proofs.hub.Hub.check.Goals as goal
 
 pub invariant_of-self : goal.invariant_of-self
 invariant_of-self c = (
-  met_agrees c.check_one-checked.result.1.fate c.args.channel.now c.args.session c.self.inside.sessions c.check_one-checked.new.sessions c.self.inside.rows c.self.invariant.0 c.check_one-checked.ensures.others c.check_one-checked.ensures.offs
+  met_agrees c.check_one-checked.result.1.fate c.args.channel.now c.args.session c.self.inside.sessions
+      c.check_one-checked.new.sessions c.self.inside.rows c.self.invariant.0 c.check_one-checked.ensures.others
+      c.check_one-checked.ensures.offs
       c.settle.new.rows c.settle.ensures,
-  bounded_both c.args.session c.self.inside.sessions c.check_one-checked.new.sessions c.self.invariant.1 _ c.check_one-checked.ensures.here c.check_one-checked.ensures.others,
+  bounded_both c.args.session c.self.inside.sessions c.check_one-checked.new.sessions c.self.invariant.1
+      _ c.check_one-checked.ensures.here c.check_one-checked.ensures.others,
 )
 
 pub returns-clause-session : goal.returns-clause-session
 returns-clause-session c =
-    met_seen c.check_one-checked.result.1.fate c.args.channel.now c.args.session c.self.inside.sessions c.check_one-checked.new.sessions c.self.inside.rows c.self.invariant.0 c.check_one-checked.ensures.others c.check_one-checked.ensures.offs
-    c.args.self.now _ (ap (λ (h : Node). h.sessions) (sym c.self.view_is)) refl c.settle.ensures (λ hit. OrCloses hit plain (checks plain c.args.channel.now c.args.top)) c.check_one-checked.result.1.refused c.check_one-checked.ensures.here
-    (c.count_more-self-inside.ensures ∙ ap (λ (h : Node). counted (one_if c.check_one-checked.result.1.refused) h.refused) c.self.view_is)
+    met_seen c.check_one-checked.result.1.fate c.args.channel.now c.args.session c.self.inside.sessions
+    c.check_one-checked.new.sessions c.self.inside.rows c.self.invariant.0 c.check_one-checked.ensures.others
+    c.check_one-checked.ensures.offs
+    c.args.self.now _ (ap (λ (h : Node). h.sessions) (sym c.self.view_is)) refl c.settle.ensures
+    (λ hit. OrCloses hit plain (checks plain c.args.channel.now c.args.top)) c.check_one-checked.result.1.refused
+    c.check_one-checked.ensures.here
+    (c.count_more-self-inside.ensures ∙ ap (λ (h : Node). counted (one_if c.check_one-checked.result.1.refused)
+    h.refused) c.self.view_is)
 
 pub returns-clause-answer : goal.returns-clause-answer
-returns-clause-answer c = c.check_one-checked.ensures.answer ∙ ap (λ (g : ℕ → Option Attached). check_answer c.args.top (sub_in (g c.args.session) c.args.channel.now)) (sym (seen c.args.self.now c.self.inside.sessions (ap (λ (h : Node). h.sessions) (sym c.self.view_is))))
+returns-clause-answer c =
+    c.check_one-checked.ensures.answer ∙ ap (λ (g : ℕ → Option Attached). check_answer c.args.top
+    (sub_in (g c.args.session) c.args.channel.now))
+    (sym (seen c.args.self.now c.self.inside.sessions (ap (λ (h : Node). h.sessions) (sym c.self.view_is))))

@@ -6,5 +6,7 @@ use Rattle.cf_hub.proofs.hub.Hub.deliver.Goals as goal
 
 pub returns-clause-each : goal.returns-clause-each
 returns-clause-each c =
-    noted c.args.publication.now c.args.channel.now c.args.epoch.now (one_if (not (is_some c.push_for_all-written.result))) c.args.self.now c.push_for_all-written.new.self c.deliver_to_all-counts.new.self c.push_for_all-written.ensures.noted
+    noted c.args.publication.now c.args.channel.now c.args.epoch.now
+    (one_if (not (is_some c.push_for_all-written.result))) c.args.self.now c.push_for_all-written.new.self
+    c.deliver_to_all-counts.new.self c.push_for_all-written.ensures.noted
     c.deliver_to_all-counts.ensures.each

@@ -7,4 +7,6 @@ use Rattle.cf_hub.proofs.hub.Hub.free_number.Goals as goal
 
 pub loop-number-init : goal.loop-number-init
 loop-number-init c = λ j h.
-    ap (λ (g : ℕ → Option Attached). is_some (g j)) (seen c.args.self.now c.self.inside.sessions (ap (λ (h : Node). h.sessions) (sym c.self.view_is))) ∙ c.self.invariant.1.taken j h
+    ap (λ (g : ℕ → Option Attached). is_some (g j))
+    (seen c.args.self.now c.self.inside.sessions (ap (λ (h : Node). h.sessions) (sym c.self.view_is)))
+    ∙ c.self.invariant.1.taken j h

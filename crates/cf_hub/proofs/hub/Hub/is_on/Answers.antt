@@ -5,4 +5,5 @@ use Rattle.cf_hub.proofs.Checks.{is_placed}
 use Rattle.cf_hub.proofs.hub.Hub.is_on.Goals as goal
 
 pub returns : goal.returns
-returns c = c.is_some.ensures ∙ ap is_some c.place.ensures ∙ is_placed (sub_at c.args.self.now c.args.session c.args.channel.now)
+returns c = c.is_some.ensures ∙ ap is_some c.place.ensures
+    ∙ is_placed (sub_at c.args.self.now c.args.session c.args.channel.now)

@@ -12,5 +12,6 @@ pub returns-in-Some : goal.returns-in-Some
 returns-in-Some c =
     subst (λ (o : Option Attached). IsTrue c.all_finished.result ↔ ((x : List ℕ) → is_unfinished (sub_in o x) ≡ false))
     (ap (λ o. option_map attached_of (option_copied o)) (sym c.in-Some.is) ∙ c.session.ensures)
-    (subst (λ (b : Bool). IsTrue b ↔ ((x : List ℕ) → is_unfinished ((state_of c.in-Some.session.now).subs x) ≡ false)) (sym c.all_finished.ensures.all)
+    (subst (λ (b : Bool). IsTrue b ↔ ((x : List ℕ) → is_unfinished ((state_of c.in-Some.session.now).subs x) ≡ false))
+    (sym c.all_finished.ensures.all)
     (ready c.in-Some.session.now.subscriptions c.all_finished.ensures.unique))

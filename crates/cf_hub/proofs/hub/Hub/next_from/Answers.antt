@@ -9,9 +9,14 @@ use Rattle.cf_hub.proofs.hub.Hub.next_from.Goals as goal
 
 pub returns-clause-none : goal.returns-clause-none
 returns-clause-none c =
-    subst (λ (f : ℕ → Option Attached). IfNone c.next_from.result (HasNoneFrom c.args.from f)) (sym (seen c.args.self.now c.self.inside.sessions (ap (λ (h : Node). h.sessions) (sym c.self.view_is)))) c.next_from.ensures.none
+    subst (λ (f : ℕ → Option Attached). IfNone c.next_from.result (HasNoneFrom c.args.from f))
+    (sym (seen c.args.self.now c.self.inside.sessions (ap (λ (h : Node). h.sessions) (sym c.self.view_is))))
+    c.next_from.ensures.none
 
 pub returns-clause-next : goal.returns-clause-next
 returns-clause-next c =
-    next_below c.next_from.result c.args.from _ (bounded_view _ _ c.self.inside.sessions c.self.view_is refl c.self.invariant.1.below)
-    (subst (λ (f : ℕ → Option Attached). IfSome c.next_from.result (λ k. IsNextFrom c.args.from k f)) (sym (seen c.args.self.now c.self.inside.sessions (ap (λ (h : Node). h.sessions) (sym c.self.view_is)))) c.next_from.ensures.next)
+    next_below c.next_from.result c.args.from _ (bounded_view _ _ c.self.inside.sessions c.self.view_is refl
+    c.self.invariant.1.below)
+    (subst (λ (f : ℕ → Option Attached). IfSome c.next_from.result (λ k. IsNextFrom c.args.from k f))
+    (sym (seen c.args.self.now c.self.inside.sessions (ap (λ (h : Node). h.sessions) (sym c.self.view_is))))
+    c.next_from.ensures.next)

@@ -9,10 +9,14 @@ use Rattle.cf_hub.proofs.hub.Hub.next_with_output.Goals as goal
 
 pub returns-clause-waiting : goal.returns-clause-waiting
 returns-clause-waiting c =
-    subst (λ (f : ℕ → Option Attached). IfSome c.next_in.result (λ k. waits_in (f k) ≢ [])) (sym (seen c.args.self.now c.self.inside.sessions (ap (λ (h : Node). h.sessions) (sym c.self.view_is))))
-    (subst (λ (k : Option ℕ). IfSome k (λ j. waits_in (attached_in c.self.inside.sessions j) ≢ [])) (sym c.next_in.ensures.first) (named_waits (attached_in c.self.inside.sessions) c.self.inside.pending.numbers))
+    subst (λ (f : ℕ → Option Attached). IfSome c.next_in.result (λ k. waits_in (f k) ≢ []))
+    (sym (seen c.args.self.now c.self.inside.sessions (ap (λ (h : Node). h.sessions) (sym c.self.view_is))))
+    (subst (λ (k : Option ℕ). IfSome k (λ j. waits_in (attached_in c.self.inside.sessions j) ≢ []))
+    (sym c.next_in.ensures.first) (named_waits (attached_in c.self.inside.sessions) c.self.inside.pending.numbers))
 
 pub returns-clause-next : goal.returns-clause-next
 returns-clause-next c =
-    subst (λ (f : ℕ → Option Attached). IsNextTurn f c.args.self.now.turns c.next_in.new.pending c.next_in.result) (sym (seen c.args.self.now c.self.inside.sessions (ap (λ (h : Node). h.sessions) (sym c.self.view_is))))
-    (subst (λ (h : Node). IsNextTurn (attached_in c.self.inside.sessions) h.turns c.next_in.new.pending c.next_in.result) c.self.view_is c.next_in.ensures)
+    subst (λ (f : ℕ → Option Attached). IsNextTurn f c.args.self.now.turns c.next_in.new.pending c.next_in.result)
+    (sym (seen c.args.self.now c.self.inside.sessions (ap (λ (h : Node). h.sessions) (sym c.self.view_is))))
+    (subst (λ (h : Node). IsNextTurn (attached_in c.self.inside.sessions) h.turns c.next_in.new.pending
+    c.next_in.result) c.self.view_is c.next_in.ensures)

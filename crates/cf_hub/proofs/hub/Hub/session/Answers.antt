@@ -6,4 +6,6 @@ use Rattle.cf_hub.proofs.Hubs.{seen}
 use Rattle.cf_hub.proofs.hub.Hub.session.Goals as goal
 
 pub returns : goal.returns
-returns c = ap (option_map attached_of) c.get.ensures ∙ ap (λ (g : ℕ → Option Attached). g c.args.number) (sym (seen c.args.self.now c.self.inside.sessions (ap (λ (h : Node). h.sessions) (sym c.self.view_is))))
+returns c = ap (option_map attached_of) c.get.ensures
+    ∙ ap (λ (g : ℕ → Option Attached). g c.args.number)
+    (sym (seen c.args.self.now c.self.inside.sessions (ap (λ (h : Node). h.sessions) (sym c.self.view_is))))

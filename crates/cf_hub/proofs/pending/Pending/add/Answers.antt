@@ -16,6 +16,12 @@ pub invariant_of-self : goal.invariant_of-self
 invariant_of-self c =
     let within : c.args.number < length c.self.inside.is_pending.items = search rules in
     let unmarked : is_marked c.self.inside.is_pending.items c.args.number ≡ false = search rules in
-    let room : deque_capacity c.push_back_reserved.new.self ≡ deque_capacity c.self.inside.numbers = c.push_back_reserved.ensures.capacity in
-    let marked = added c.self.inside.numbers.items c.self.inside.is_pending.items (deque_capacity c.self.inside.numbers) c.args.number c.self.invariant within unmarked in
-    subst (λ (n : ℕ). AreMarked c.push_back_reserved.new.self.items (slice_set c.self.inside.is_pending.items c.args.number true) n) (sym room) (subst (λ (ns : List ℕ). AreMarked ns (slice_set c.self.inside.is_pending.items c.args.number true) (deque_capacity c.self.inside.numbers)) (sym c.push_back_reserved.ensures.items) marked)
+    let room : deque_capacity c.push_back_reserved.new.self ≡ deque_capacity c.self.inside.numbers =
+    c.push_back_reserved.ensures.capacity in
+    let marked =
+    added c.self.inside.numbers.items c.self.inside.is_pending.items (deque_capacity c.self.inside.numbers)
+    c.args.number c.self.invariant within unmarked in
+    subst (λ (n : ℕ). AreMarked c.push_back_reserved.new.self.items
+    (slice_set c.self.inside.is_pending.items c.args.number true) n) (sym room)
+    (subst (λ (ns : List ℕ). AreMarked ns (slice_set c.self.inside.is_pending.items c.args.number true)
+    (deque_capacity c.self.inside.numbers)) (sym c.push_back_reserved.ensures.items) marked)

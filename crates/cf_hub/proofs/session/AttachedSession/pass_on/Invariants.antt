@@ -7,4 +7,5 @@ use Rattle.cf_hub.proofs.session.AttachedSession.enqueue_run.Given as goal
 
 abbrev pub invariant-loop-publication : goal.invariant-loop-publication
 invariant-loop-publication l =
-    SaysAll l.refused plain (map (λ x. Text (push_text l.channel x)) (take l.publication-index l.run)) (state_of l.fn.self) (state_of l.self) × (badge_of l.self ≡ badge_of l.fn.self)
+    SaysAll l.refused plain (map (λ x. Text (push_text l.channel x)) (take l.publication-index l.run))
+    (state_of l.fn.self) (state_of l.self) × (badge_of l.self ≡ badge_of l.fn.self)

@@ -11,7 +11,10 @@ use Rattle.cf_hub.proofs.session.AttachedSession.tell.Goals as goal
 
 pub returns-clause-offs : goal.returns-clause-offs
 returns-clause-offs c = λ d.
-    said_off [] d plain (Text (string_bytes c.args.text)) (Close no_memory) c.say-refused.result (state_of c.args.self.now) (state_of c.say-refused.new.self) fate.Passed (is_off ((state_of c.args.self.now).subs d))
+    said_off [] d plain (Text (string_bytes c.args.text)) (Close no_memory) c.say-refused.result
+    (state_of c.args.self.now) (state_of c.say-refused.new.self) fate.Passed
+    (is_off ((state_of c.args.self.now).subs d))
     (c.say-refused.ensures.state (string_bytes c.args.text) c.shared.ensures) refl
     ∙ ap (λ f. off_after f [] d (is_off ((state_of c.args.self.now).subs d)))
-    (sym (c.step.ensures.fate ∙ ap (λ t. if not t && (state_of c.say-refused.new.self).closed then fate.Closed else fate.Passed) c.is_closed-was_closed.ensures))
+    (sym (c.step.ensures.fate ∙ ap (λ t. if not t && (state_of c.say-refused.new.self).closed then fate.Closed
+    else fate.Passed) c.is_closed-was_closed.ensures))

@@ -10,4 +10,6 @@ returns-clause-here c =
     written c.self.inside.places.items c.args.number c.take.new.self there ∙ ap unboxed c.take.ensures.after
 
 pub returns-clause-others : goal.returns-clause-others
-returns-clause-others c = λ j h. others_stay c.self.inside.places.items c.args.number c.take.new.self j h ∙ ap (λ (ps : Places). session_in ps j) c.self.view_is
+returns-clause-others c =
+    λ j h. others_stay c.self.inside.places.items c.args.number c.take.new.self j h
+    ∙ ap (λ (ps : Places). session_in ps j) c.self.view_is

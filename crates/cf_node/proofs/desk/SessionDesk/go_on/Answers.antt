@@ -10,7 +10,8 @@ loop-part-preserved g c =
     let before = c.loop-part.invariant in
     record {
       goes = λ long m end rest.
-          before.goes (still_long (met_refused_memory c.loop-part.self.talk.session) (met_refused_memory c.go_on-cost.new.self.session) c.go_on-cost.ensures.short long) m end
+          before.goes (still_long (met_refused_memory c.loop-part.self.talk.session)
+          (met_refused_memory c.go_on-cost.new.self.session) c.go_on-cost.ensures.short long) m end
           (c.go_on-cost.ensures.goes long m end rest);
       short = λ s. c.go_on-cost.ensures.short (before.short s);
     }

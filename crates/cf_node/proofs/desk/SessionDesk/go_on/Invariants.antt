@@ -5,6 +5,7 @@ use Rattle.cf_node.proofs.desk.SessionDesk.go_on.Given as goal
 
 abbrev pub invariant-loop-part : goal.invariant-loop-part
 invariant-loop-part g l = record {
-  goes : CarriesOn g.B.Of.Naming.namespaces (λ h. h.client.standing.is_over) l.initial.self.talk.session l.initial.self.handler l.self.talk.session l.self.handler;
+  goes : CarriesOn g.B.Of.Naming.namespaces (λ h. h.client.standing.is_over) l.initial.self.talk.session
+      l.initial.self.handler l.self.talk.session l.self.handler;
   short : met_refused_memory l.initial.self.talk.session ≡ true → met_refused_memory l.self.talk.session ≡ true;
 }

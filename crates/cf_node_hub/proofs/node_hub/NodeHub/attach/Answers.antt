@@ -3,4 +3,5 @@ use Rattle.cf_node_hub.proofs.node_hub.NodeHub.attach.Goals as goal
 
 pub invariant_of-self : goal.invariant_of-self
 invariant_of-self g c =
-    attach_kept c.moves_are_among.ensures _ c.args.now _ _ _ c.attach.result c.attach.ensures.opens c.attach.ensures.err c.self.invariant
+    attach_kept c.moves_are_among.ensures _ c.args.now _ _ _ c.attach.result c.attach.ensures.opens c.attach.ensures.err
+    c.self.invariant

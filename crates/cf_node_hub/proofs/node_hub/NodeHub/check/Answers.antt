@@ -7,4 +7,7 @@ use Rattle.cf_node_hub.proofs.node_hub.NodeHub.check.Goals as goal
 
 pub invariant_of-self : goal.invariant_of-self
 invariant_of-self g c =
-    λ sound. let lists = seen_lists c.self.inside.seen in meets-says IsReply lists c.args.session (checks plain c.args.channel.now c.args.top) _ _ (checks-keep IsReply lists (c.moves_are_among.ensures lists) c.args.channel.now c.args.top) c.check.ensures.session (c.self.invariant sound)
+    λ sound. let lists = seen_lists c.self.inside.seen in
+    meets-says IsReply lists c.args.session (checks plain c.args.channel.now c.args.top)
+    _ _ (checks-keep IsReply lists (c.moves_are_among.ensures lists) c.args.channel.now c.args.top)
+    c.check.ensures.session (c.self.invariant sound)

@@ -7,4 +7,6 @@ use Rattle.cf_node_hub.proofs.node_hub.NodeHub.close.Goals as goal
 
 pub invariant_of-self : goal.invariant_of-self
 invariant_of-self g c =
-    one_kept _ c.args.session (closes_now (Close c.args.code)) _ _ (λ lists. closes-keep IsReply lists (c.moves_are_among.ensures lists) c.args.code) c.close.ensures.sessions c.self.invariant
+    one_kept _ c.args.session (closes_now (Close c.args.code))
+    _ _ (λ lists. closes-keep IsReply lists (c.moves_are_among.ensures lists) c.args.code) c.close.ensures.sessions
+    c.self.invariant

@@ -6,4 +6,6 @@ use Rattle.cf_node_hub.proofs.node_hub.NodeHub.leave.Goals as goal
 
 pub invariant_of-self : goal.invariant_of-self
 invariant_of-self g c =
-    one_kept _ c.args.session (leaves c.args.channel.now) _ _ (λ lists. leaves-keep IsReply lists (c.moves_are_among.ensures lists) c.args.channel.now) c.leave.ensures.sessions c.self.invariant
+    one_kept _ c.args.session (leaves c.args.channel.now)
+    _ _ (λ lists. leaves-keep IsReply lists (c.moves_are_among.ensures lists) c.args.channel.now)
+    c.leave.ensures.sessions c.self.invariant

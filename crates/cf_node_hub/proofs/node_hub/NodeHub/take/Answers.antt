@@ -6,4 +6,5 @@ use Rattle.cf_node_hub.proofs.node_hub.NodeHub.take.Goals as goal
 
 pub invariant_of-self : goal.invariant_of-self
 invariant_of-self g c =
-    one_kept _ c.args.session takes_front _ _ (λ lists. takes-keep IsReply lists (c.moves_are_among.ensures lists)) c.take.ensures.sessions c.self.invariant
+    one_kept _ c.args.session takes_front _ _ (λ lists. takes-keep IsReply lists (c.moves_are_among.ensures lists))
+    c.take.ensures.sessions c.self.invariant

@@ -9,15 +9,21 @@ use Rattle.cf_order.proofs.word.ShardWord.join.Goals as goal
 pub join_seat-requires : goal.join_seat-requires
 join_seat-requires c =
     let words = c.self.invariant in
-    let table = sym c.self.view_is in
-    (ap (λ k. k.word) c.pass.view_is ∙ c.requires.pass ∙ table, ap (λ k. k.word) c.other.view_is ∙ c.requires.other ∙ table, c.other.invariant.bare, omega arith, joins _ _ _ _ c.pass.invariant.owns c.other.invariant.owns)
+    let table = sym c.self.view_is in (
+      ap (λ k. k.word) c.pass.view_is ∙ c.requires.pass ∙ table,
+      ap (λ k. k.word) c.other.view_is ∙ c.requires.other ∙ table,
+      c.other.invariant.bare,
+      omega arith,
+      joins _ _ _ _ c.pass.invariant.owns c.other.invariant.owns,
+    )
 
 pub returns-clause-seen : goal.returns-clause-seen
 returns-clause-seen c =
     let v = c.pass.inside.seat.me.0 in
     let w = c.other.inside.seat.me.0 in
     let is : c.tell.new.seat.me.0 ≡ joined v w = ap (λ m. m.0) (c.tell.ensures.same.1 ∙ c.join_seat.ensures.2) in
-    let k : Knows (joined v w) c.tell.result = subst (λ (u : View). Knows u c.tell.result) (ap (λ m. m.0) c.join_seat.ensures.2) c.tell.ensures.told in
+    let k : Knows (joined v w) c.tell.result =
+    subst (λ (u : View). Knows u c.tell.result) (ap (λ m. m.0) c.join_seat.ensures.2) c.tell.ensures.told in
     let seen = seen_begins v.log w.log v.found w.found c.pass.invariant.seen c.other.invariant.seen k.met in
     rw (sym c.pass.view_is, sym c.other.view_is, is) seen
 
@@ -26,5 +32,6 @@ returns-clause-found c =
     let v = c.pass.inside.seat.me.0 in
     let w = c.other.inside.seat.me.0 in
     let is : c.tell.new.seat.me.0 ≡ joined v w = ap (λ m. m.0) (c.tell.ensures.same.1 ∙ c.join_seat.ensures.2) in
-    let k : Knows (joined v w) c.tell.result = subst (λ (u : View). Knows u c.tell.result) (ap (λ m. m.0) c.join_seat.ensures.2) c.tell.ensures.told in
+    let k : Knows (joined v w) c.tell.result =
+    subst (λ (u : View). Knows u c.tell.result) (ap (λ m. m.0) c.join_seat.ensures.2) c.tell.ensures.told in
     rw (sym c.pass.view_is, sym c.other.view_is, is) (met_begins v.found w.found k.met)

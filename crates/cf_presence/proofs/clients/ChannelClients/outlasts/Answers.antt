@@ -17,9 +17,13 @@ returns-clause-left c =
     (filter_same_pairs _ (λ e. stays c.args.now e.1) _ (λ k v b w f' t. search rules) _ _ c.retain.ensures.filtered))
 
 pub returns-clause-any : goal.returns-clause-any
-returns-clause-any c = rw (← returns-clause-left c) (ap not (is_empty-by_text c.retain.new.self c.is_empty.result c.is_empty.ensures))
+returns-clause-any c =
+    rw (← returns-clause-left c) (ap not (is_empty-by_text c.retain.new.self c.is_empty.result c.is_empty.ensures))
 
 pub invariant_of-self : goal.invariant_of-self
 invariant_of-self c =
-    let left = filter_same_pairs _ (λ e. stays c.args.now e.1) _ (λ k v b w f' t. search rules) _ _ c.retain.ensures.filtered in
-    same_counts c.drop_gone.new.users _ _ c.drop_gone.ensures (λ u. ap (λ ss. clients_with u ss) (sym (ap values_of left ∙ values_filter c.args.now c.self.inside.map.entries)))
+    let left = filter_same_pairs _ (λ e. stays c.args.now e.1) _ (λ k v b w f' t. search rules)
+    _ _ c.retain.ensures.filtered in
+    same_counts c.drop_gone.new.users _ _ c.drop_gone.ensures
+    (λ u. ap (λ ss. clients_with u ss) (sym (ap values_of left
+    ∙ values_filter c.args.now c.self.inside.map.entries)))

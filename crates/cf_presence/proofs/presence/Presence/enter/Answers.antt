@@ -6,10 +6,13 @@ use Rattle.cf_presence.proofs.presence.Presence.enter.Goals as goal
 pub returns-clause-ok : goal.returns-clause-ok
 returns-clause-ok c =
     rw (← c.self.view_is, get-by_text)
-    (on_ok_weaker c.enter_in.result (λ h. sets c.self.inside.map c.enter_in.new.map c.args.channel.now _ h) c.enter_in.ensures.ok)
+    (on_ok_weaker c.enter_in.result (λ h. sets c.self.inside.map c.enter_in.new.map c.args.channel.now _ h)
+    c.enter_in.ensures.ok)
 
 pub returns-clause-err : goal.returns-clause-err
-returns-clause-err c = rw (← c.self.view_is) (on_err_weaker c.enter_in.result (λ h. keeps c.self.inside.map c.enter_in.new.map h) c.enter_in.ensures.err)
+returns-clause-err c =
+    rw (← c.self.view_is) (on_err_weaker c.enter_in.result (λ h. keeps c.self.inside.map c.enter_in.new.map h)
+    c.enter_in.ensures.err)
 
 pub returns-clause-again : goal.returns-clause-again
 returns-clause-again c = rw (← c.self.view_is, get-by_text) c.enter_in.ensures.again

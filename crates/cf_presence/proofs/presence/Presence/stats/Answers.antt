@@ -9,7 +9,8 @@ use Rattle.cf_presence.specs.Presence.{Seen}
 use Rattle.cf_presence.proofs.presence.Presence.stats.Goals as goal
 
 pub returns-in-None-clause-clients : goal.returns-in-None-clause-clients
-returns-in-None-clause-clients c = rw (← c.self.view_is, get-by_text, ← c.in-None.ensures.value) (sym (fin.len-empty (slice_cmp nat_cmp) Seen))
+returns-in-None-clause-clients c =
+    rw (← c.self.view_is, get-by_text, ← c.in-None.ensures.value) (sym (fin.len-empty (slice_cmp nat_cmp) Seen))
 
 pub returns-in-None-clause-users : goal.returns-in-None-clause-users
 returns-in-None-clause-users c = rw (← c.self.view_is, get-by_text, ← c.in-None.ensures.value) (sym user_count-empty)

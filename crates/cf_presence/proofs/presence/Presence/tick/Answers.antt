@@ -11,16 +11,22 @@ use Rattle.cf_presence.proofs.presence.Presence.tick.Goals as goal
 
 pub returns-clause-left : goal.returns-clause-left
 returns-clause-left c =
-    let kept : (q : List ℕ) → get_by_text c.retain.new.self q ≡ after_tick c.args.now (get_by_text c.self.inside.map q) =
+    let kept : (q : List ℕ) → get_by_text c.retain.new.self q
+    ≡ after_tick c.args.now (get_by_text c.self.inside.map q) =
     get-after_tick c.args.now c.self.inside.map c.retain.new.self c.retain.ensures.was_ordered
-    (map_filter_same_pairs _ (still c.args.now) (λ r. not (fin.len (still c.args.now r) == 0)) _ (λ k v b w f' t. search rules) _ _ c.retain.ensures.filtered) in
+    (map_filter_same_pairs _ (still c.args.now) (λ r. not (fin.len (still c.args.now r) == 0))
+    _ (λ k v b w f' t. search rules) _ _ c.retain.ensures.filtered) in
     rw (← c.self.view_is)
     (λ q. rw (get-by_text c.self.inside.map q)
-    (ap (λ o. unwrap_or o fin.empty) (get-by_text c.retain.new.self q ∙ kept q) ∙ clients-after_tick c.args.now (get_by_text c.self.inside.map q)))
+    (ap (λ o. unwrap_or o fin.empty) (get-by_text c.retain.new.self q ∙ kept q)
+    ∙ clients-after_tick c.args.now (get_by_text c.self.inside.map q)))
 
 pub returns-clause-nowhere_none : goal.returns-clause-nowhere_none
 returns-clause-nowhere_none c =
-    let kept : (q : List ℕ) → get_by_text c.retain.new.self q ≡ after_tick c.args.now (get_by_text c.self.inside.map q) =
+    let kept : (q : List ℕ) → get_by_text c.retain.new.self q
+    ≡ after_tick c.args.now (get_by_text c.self.inside.map q) =
     get-after_tick c.args.now c.self.inside.map c.retain.new.self c.retain.ensures.was_ordered
-    (map_filter_same_pairs _ (still c.args.now) (λ r. not (fin.len (still c.args.now r) == 0)) _ (λ k v b w f' t. search rules) _ _ c.retain.ensures.filtered) in
-    λ q e. nowhere_none c.args.now (get_by_text c.self.inside.map q) (sym (get-by_text c.retain.new.self q ∙ kept q) ∙ e)
+    (map_filter_same_pairs _ (still c.args.now) (λ r. not (fin.len (still c.args.now r) == 0))
+    _ (λ k v b w f' t. search rules) _ _ c.retain.ensures.filtered) in
+    λ q e. nowhere_none c.args.now (get_by_text c.self.inside.map q)
+    (sym (get-by_text c.retain.new.self q ∙ kept q) ∙ e)

@@ -11,18 +11,22 @@ use Rattle.cf_protocol.specs.Shown.{shown_command}
 use Rattle.cf_protocol.proofs.Objects.{object_by}
 use Rattle.cf_protocol.proofs.read.command.read_command.Goals as goal
 
-pong : (text : List ℕ) (ms : List (String Global × Span)) (fs : Fields) → length ms ≡ 0 → Reads text ms fs → command_from fs ≡ Some (record { id = 0; request = Pong })
+pong : (text : List ℕ) (ms : List (String Global × Span)) (fs : Fields) → length ms ≡ 0 → Reads text ms fs
+    → command_from fs ≡ Some (record { id = 0; request = Pong })
 pong text [] [] h r = refl
 pong text [] (f ∷ fs) h r = absurd r
 pong text (m ∷ ms) fs h r = absurd (search rules)
 
-named : (text : List ℕ) (ms : List (String Global × Span)) (fs : Fields) → length ms ≢ 0 → Reads text ms fs → named_command fs ≡ command_from fs
+named : (text : List ℕ) (ms : List (String Global × Span)) (fs : Fields) → length ms ≢ 0 → Reads text ms fs
+    → named_command fs ≡ command_from fs
 named text [] fs h r = absurd (h refl)
 named text (m ∷ ms) [] h r = absurd r
 named text (m ∷ ms) (f ∷ fs) h r = refl
 
 pub read_named-requires : goal.read_named-requires
-read_named-requires c = let m = c.in_ok-members.members in let o = object_by m.text.now m.found.items c.requires.0 (c.in_ok-members.ensures c.requires.0 c.requires.1) in (o.fields, o.reads)
+read_named-requires c = let m = c.in_ok-members.members in let o =
+    object_by m.text.now m.found.items c.requires.0 (c.in_ok-members.ensures c.requires.0 c.requires.1) in
+    (o.fields, o.reads)
 
 pub returns-then-is_empty : goal.returns-then-is_empty
 returns-then-is_empty c t at =

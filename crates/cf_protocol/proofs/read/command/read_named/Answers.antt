@@ -1,7 +1,10 @@
-use Rattle.std.proofs.Common.{rules, Err, ◌≡◌, ℕ, Bool, true, false, ◌&&◌, cond, Option, Some, None, ◌==◌, refl, ap, ◌∙◌, ne_eqb, subst}
+use Rattle.std.proofs.Common.{rules, Err, ◌≡◌, ℕ, Bool, true, false, ◌&&◌, cond, Option, Some, None, ◌==◌, refl, ap}
+use Rattle.std.proofs.Common.{◌∙◌, ne_eqb, subst}
 use Rattle.cf_json.specs.Grammar.{Tree}
-use Rattle.cf_protocol.specs.Command.{named_command, request_of, needs_id, connect, subscribe, unsubscribe, publish, presence, presence_stats, history}
-use Rattle.cf_protocol.specs.Fields.{Fields, ◌>>=◌, whole, max_u32, as_object, text, flag, position, limit, object_or_none}
+use Rattle.cf_protocol.specs.Command.{named_command, request_of, needs_id, connect, subscribe, unsubscribe, publish}
+use Rattle.cf_protocol.specs.Command.{presence, presence_stats, history}
+use Rattle.cf_protocol.specs.Fields.{Fields, ◌>>=◌, whole, max_u32, as_object, text, flag, position, limit}
+use Rattle.cf_protocol.specs.Fields.{object_or_none}
 use Rattle.cf_protocol.specs.Methods.{request_as}
 use Rattle.cf_protocol.specs.Reading.{Answers}
 use Rattle.cf_protocol.specs.Request.{Request, Command}
@@ -9,7 +12,9 @@ use Rattle.cf_protocol.specs.Shown.{shown_request}
 use Rattle.cf_protocol.specs.declared.read.method.Method.{Method}
 use Rattle.cf_protocol.specs.declared.read.method.Method.TheVariants as method
 use Rattle.cf_protocol.proofs.Choices.{by_key, by_fault}
-use Rattle.cf_protocol.proofs.read.command.read_named.Goals.{in-Send, in_default, else-id-eq0-via-then-id-eq0+else-not-matches, else-id-eq0-via-else-id-eq0}
+use Rattle.cf_protocol.proofs.read.command.read_named.Goals.{in-Send, in_default}
+use Rattle.cf_protocol.proofs.read.command.read_named.Goals.{else-id-eq0-via-then-id-eq0+else-not-matches}
+use Rattle.cf_protocol.proofs.read.command.read_named.Goals.{else-id-eq0-via-else-id-eq0}
 use Rattle.cf_protocol.proofs.read.command.read_named.Goals as goal
 
 -- ---- a request that is read needs an id as its method does
@@ -32,12 +37,17 @@ then b (Some x) f h = h x
 
 needs : (m : Method) (t : Tree) → Needs (has_id m) (request_as m t)
 needs method.Connect t = then true (as_object t) connect (λ r. then true (text r "token") _ (λ x. refl))
-needs method.Subscribe t = then true (as_object t) subscribe (λ r. then true (flag r "recover") _ (λ x. then true (position r) _ (λ y. then true (text r "channel") _ (λ z. refl))))
+needs method.Subscribe t = then true (as_object t) subscribe
+    (λ r. then true (flag r "recover") _ (λ x. then true (position r)
+    _ (λ y. then true (text r "channel") _ (λ z. refl))))
 needs method.Unsubscribe t = then true (as_object t) unsubscribe (λ r. then true (text r "channel") _ (λ x. refl))
-needs method.Publish t = then true (as_object t) publish (λ r. then true (text r "channel") _ (λ x. then true (text r "key") _ (λ y. refl)))
+needs method.Publish t = then true (as_object t) publish
+    (λ r. then true (text r "channel") _ (λ x. then true (text r "key") _ (λ y. refl)))
 needs method.Presence t = then true (as_object t) presence (λ r. then true (text r "channel") _ (λ x. refl))
 needs method.PresenceStats t = then true (as_object t) presence_stats (λ r. then true (text r "channel") _ (λ x. refl))
-needs method.History t = then true (as_object t) history (λ r. then true (limit r "limit") _ (λ x. then true (object_or_none position r "since") _ (λ y. then true (flag r "reverse") _ (λ z. then true (text r "channel") _ (λ u. refl)))))
+needs method.History t = then true (as_object t) history
+    (λ r. then true (limit r "limit") _ (λ x. then true (object_or_none position r "since")
+    _ (λ y. then true (flag r "reverse") _ (λ z. then true (text r "channel") _ (λ u. refl)))))
 needs method.Ping t = refl
 needs method.Send t = refl
 needs method.Other t = refl
@@ -47,7 +57,8 @@ needs method.Other t = refl
 abbrev with_id : ℕ → Request → Option Command
 with_id id r = cond (needs_id r && (id == 0)) None (Some (record { id = id; request = r }))
 
-named : (fs : Fields) (id : ℕ) (o : Option Request) → whole max_u32 fs "id" ≡ Some id → request_of fs ≡ o → named_command fs ≡ (o >>= with_id id)
+named : (fs : Fields) (id : ℕ) (o : Option Request) → whole max_u32 fs "id" ≡ Some id → request_of fs ≡ o
+    → named_command fs ≡ (o >>= with_id id)
 named fs id o e f = ap (λ p. p >>= λ n. request_of fs >>= with_id n) e ∙ ap (λ p. p >>= with_id id) f
 
 and_false : (b : Bool) → (b && false) ≡ false
@@ -61,7 +72,9 @@ unanswered b id (Some r) h e z = rw (h, e, z) refl
 
 pub returns-in_err-method : goal.returns-in_err-method
 returns-in_err-method c fs reads =
-    let none : Answers shown_request (Err c.in_err-method.field-0.0) (request_of fs) = by_fault shown_request request_as c.args.members.now.text.now _ fs c.in_err-method.field-0.0 (c.in_err-method.ensures fs reads) in
+    let none : Answers shown_request (Err c.in_err-method.field-0.0) (request_of fs) =
+    by_fault shown_request request_as c.args.members.now.text.now _ fs c.in_err-method.field-0.0
+    (c.in_err-method.ensures fs reads) in
     let id = c.in_ok-id.ensures.exact fs reads in
     search rules
 
@@ -83,7 +96,8 @@ returns-then-not-matches c fs reads =
       | in-Send w ↦ cc (w.matches-is, c.if-not-matches.true)
       | in_default w ↦ others m w.in_default.not-Send
     ] in
-    named fs c.in_ok-id.field-0 (request_as m chosen.0) (rw c.from.ensures at (c.in_ok-id.ensures.exact fs reads)) request_is
+    named fs c.in_ok-id.field-0 (request_as m chosen.0) (rw c.from.ensures at (c.in_ok-id.ensures.exact fs reads))
+    request_is
     ∙ unanswered (has_id m) c.in_ok-id.field-0 (request_as m chosen.0) (needs m chosen.0) has c.if-id-eq0.true
 
 pub returns : goal.returns
@@ -102,6 +116,8 @@ returns c fs reads =
             | in-Send v ↦ ap (λ b. b && (id == 0)) (same ∙ ap has_id v.in-Send.is)
             | in_default v ↦ cc (v.matches-is, w.if-not-matches.false)
           ]
-      | else-id-eq0-via-else-id-eq0 w ↦ ap (λ b. needs_id request && b) (ne_eqb id 0 w.if-id-eq0.false) ∙ and_false (needs_id request)
+      | else-id-eq0-via-else-id-eq0 w ↦
+          ap (λ b. needs_id request && b) (ne_eqb id 0 w.if-id-eq0.false) ∙ and_false (needs_id request)
     ] in
-    named fs id (Some request) (rw c.from.ensures at (c.in_ok-id.ensures.exact fs reads)) (request_is ∙ read) ∙ ap (λ b. cond {A = Option Command} b None (Some (record { id = id; request = request }))) has
+    named fs id (Some request) (rw c.from.ensures at (c.in_ok-id.ensures.exact fs reads)) (request_is ∙ read)
+    ∙ ap (λ b. cond {A = Option Command} b None (Some (record { id = id; request = request }))) has

@@ -7,4 +7,6 @@ use Rattle.cf_protocol.proofs.ItemsRead.{AreRead}
 use Rattle.cf_protocol.proofs.read.frame.read_commands.Given as goal
 
 abbrev pub invariant-loop-span : goal.invariant-loop-span
-invariant-loop-span l = (ts : List Tree) → Stand l.text l.span-items ts → AreRead command_of ts l.span-index (map shown_command l.commands.items)
+invariant-loop-span l =
+    (ts : List Tree) → Stand l.text l.span-items ts
+    → AreRead command_of ts l.span-index (map shown_command l.commands.items)

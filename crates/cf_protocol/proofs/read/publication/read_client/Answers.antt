@@ -4,10 +4,14 @@ use Rattle.cf_protocol.proofs.Objects.{object_by}
 use Rattle.cf_protocol.proofs.read.publication.read_client.Goals as goal
 
 pub text-requires : goal.text-requires
-text-requires c = let m = c.in_ok-members.members in let o = object_by m.text.now m.found.items c.requires.0 (c.in_ok-members.ensures c.requires.0 c.requires.1) in (o.fields, o.reads)
+text-requires c = let m = c.in_ok-members.members in let o =
+    object_by m.text.now m.found.items c.requires.0 (c.in_ok-members.ensures c.requires.0 c.requires.1) in
+    (o.fields, o.reads)
 
 pub text-requires-2 : goal.text-requires-2
-text-requires-2 c = let m = c.in_ok-members.members in let o = object_by m.text.now m.found.items c.requires.0 (c.in_ok-members.ensures c.requires.0 c.requires.1) in (o.fields, o.reads)
+text-requires-2 c = let m = c.in_ok-members.members in let o =
+    object_by m.text.now m.found.items c.requires.0 (c.in_ok-members.ensures c.requires.0 c.requires.1) in
+    (o.fields, o.reads)
 
 pub returns-in_err-client : goal.returns-in_err-client
 returns-in_err-client c t at =

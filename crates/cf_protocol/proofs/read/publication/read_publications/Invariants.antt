@@ -7,4 +7,6 @@ use Rattle.cf_protocol.proofs.ItemsRead.{AreRead}
 use Rattle.cf_protocol.proofs.read.publication.read_publications.Given as goal
 
 abbrev pub invariant-loop-span : goal.invariant-loop-span
-invariant-loop-span l = (ts : List Tree) → Stand l.members.text.now l.span-items ts → AreRead (object_as publication) ts l.span-index l.publications.items
+invariant-loop-span l =
+    (ts : List Tree) → Stand l.members.text.now l.span-items ts
+    → AreRead (object_as publication) ts l.span-index l.publications.items

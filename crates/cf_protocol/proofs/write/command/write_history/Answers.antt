@@ -4,4 +4,5 @@ use Rattle.cf_protocol.proofs.write.command.write_history.Goals as goal
 
 pub returns : goal.returns
 returns c =
-    inside c.open.ensures (then c.text_member.ensures (then c.signed_member.ensures (then c.flag_member.ensures c.write_since.ensures))) c.value.ensures
+    inside c.open.ensures (then c.text_member.ensures
+    (then c.signed_member.ensures (then c.flag_member.ensures c.write_since.ensures))) c.value.ensures

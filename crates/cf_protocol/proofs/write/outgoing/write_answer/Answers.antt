@@ -15,7 +15,9 @@ pub returns-in-Published : goal.returns-in-Published
 returns-in-Published c = rw c.in-Published.is c.write_bare-in-Published.ensures
 
 pub returns-in-Present : goal.returns-in-Present
-returns-in-Present c = rw c.in-Present.is (then c.write_id-in-Present.ensures (inside c.open.ensures c.write_clients.ensures c.value.ensures))
+returns-in-Present c =
+    rw c.in-Present.is (then c.write_id-in-Present.ensures
+    (inside c.open.ensures c.write_clients.ensures c.value.ensures))
 
 pub returns-in-Counted : goal.returns-in-Counted
 returns-in-Counted c = rw c.in-Counted.is c.write_counted.ensures

@@ -5,5 +5,7 @@ use Rattle.cf_protocol.proofs.write.outgoing.write_error.Goals as goal
 
 pub returns : goal.returns
 returns c =
-    error_adds c.args.code c.if-code-eq0.false c.from.ensures c.message_of.ensures (ap (λ n. c.args.code == n) c.code.ensures) c.open.ensures c.whole_member.ensures c.text_member.ensures c.flag_member.ensures
+    error_adds c.args.code c.if-code-eq0.false c.from.ensures c.message_of.ensures
+    (ap (λ n. c.args.code == n) c.code.ensures) c.open.ensures c.whole_member.ensures c.text_member.ensures
+    c.flag_member.ensures
     c.value.ensures

@@ -4,4 +4,5 @@ use Rattle.cf_protocol.specs.Writing.{AddsItems}
 use Rattle.cf_protocol.proofs.write.outgoing.write_publications.Given as goal
 
 abbrev pub invariant-loop-publication : goal.invariant-loop-publication
-invariant-loop-publication l = AddsItems l.initial.writer l.writer (map (publication as_it_is) (take l.publication-index l.publications.items))
+invariant-loop-publication l =
+    AddsItems l.initial.writer l.writer (map (publication as_it_is) (take l.publication-index l.publications.items))

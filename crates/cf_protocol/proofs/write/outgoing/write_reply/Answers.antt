@@ -9,4 +9,5 @@ returns-in-Ping c = rw c.in-Ping.is c.from_str.ensures.ok
 
 pub returns-in-Answer : goal.returns-in-Answer
 unfolding outgoing_text
-returns-in-Answer c = rw c.in-Answer.is (whole c.into_text.result c.new-writer.ensures c.write_answer.ensures c.into_text.ensures)
+returns-in-Answer c =
+    rw c.in-Answer.is (whole c.into_text.result c.new-writer.ensures c.write_answer.ensures c.into_text.ensures)

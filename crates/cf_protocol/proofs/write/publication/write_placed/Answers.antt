@@ -8,4 +8,5 @@ pub returns : goal.returns
 returns c =
     let body = rw c.as_str.ensures.value at c.value.ensures in
     rw (← c.publication.view_is)
-    (as_value c.begin.ensures (then (member (as_it_is (string_bytes c.publication.inside.body)) c.key.ensures body) (then c.write_publisher.ensures c.whole_member.ensures)) c.value-2.ensures)
+    (as_value c.begin.ensures (then (member (as_it_is (string_bytes c.publication.inside.body)) c.key.ensures body)
+    (then c.write_publisher.ensures c.whole_member.ensures)) c.value-2.ensures)

@@ -8,5 +8,6 @@ pub returns : goal.returns
 unfolding outgoing_text
 returns c =
     let placed = publication as_it_is c.args.publication.now in
-    let push = inside_inner (pub_stands c.args.channel.now placed) c.open.ensures (then c.text_member.ensures (member placed c.key.ensures c.write_placed.ensures)) c.value.ensures in
+    let push = inside_inner (pub_stands c.args.channel.now placed) c.open.ensures
+    (then c.text_member.ensures (member placed c.key.ensures c.write_placed.ensures)) c.value.ensures in
     whole c.into_text.result c.new-writer.ensures push c.into_text.ensures

@@ -12,7 +12,8 @@ returns-in-Some-clause-front c =
 pub returns-in-Some-clause-rest : goal.returns-in-Some-clause-rest
 returns-in-Some-clause-rest c =
     let q = c.self.inside in
-    sym (ap (λ texts. taken (record { texts = texts; limit = q.limit; closed = q.closed; close = q.close })) c.in-Some.ensures.items)
+    sym (ap (λ texts. taken (record { texts = texts; limit = q.limit; closed = q.closed; close = q.close }))
+    c.in-Some.ensures.items)
     ∙ ap taken c.self.view_is
 
 pub returns-in-Some-clause-order : goal.returns-in-Some-clause-order

@@ -11,5 +11,11 @@ invariant_of-self-2 c =
 
 pub returns-clause-ok : goal.returns-clause-ok
 returns-clause-ok c =
-    rw (c.in_ok-push-2.ensures.items, c.in_ok-push.ensures.items, c.in_ok-reserve.ensures.items, c.in_ok-copy.ensures, ← c.self.view_is)
+    rw (
+      c.in_ok-push-2.ensures.items,
+      c.in_ok-push.ensures.items,
+      c.in_ok-reserve.ensures.items,
+      c.in_ok-copy.ensures,
+      ← c.self.view_is,
+    )
     (kept-push _ _ _ _ _ c.args.epoch.now c.args.publication.now c.self.invariant)

@@ -9,7 +9,8 @@ use Rattle.cf_session.proofs.session.Session.begin.Goals as goal
 pub returns-clause-acts : goal.returns-clause-acts
 returns-clause-acts c who =
     let channel = string_bytes c.args.channel in
-    let goes : progress_of c.call.new.self ≡ Out kind.Begin (after_begin c.args.id channel channel c.args.since.now (rest_of c.args.self.now)) = search rules in
+    let goes : progress_of c.call.new.self ≡ Out kind.Begin
+    (after_begin c.args.id channel channel c.args.since.now (rest_of c.args.self.now)) = search rules in
     inl (
       record { acts = ap (λ a. Some (shown_action a)) c.call.ensures.action; goes = goes },
       c.call.ensures.refusals ∙ c.requires.fresh,

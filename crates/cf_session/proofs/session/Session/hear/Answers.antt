@@ -12,7 +12,8 @@ returns-in-Ok-clause-hears c =
     let stands : is_over s.stage ≡ false = sym c.is_closed.ensures ∙ c.if-is_closed.false in
     let ready = idle_ready (commands_left s) s.stage c.requires.idle stands in
     inl (
-      hears_served (tables_of s) s.client _ c.args.text.now _ _ (idle_served (tables_of s) (commands_left s) s.client s.stage ready)
+      hears_served (tables_of s) s.client _ c.args.text.now
+          _ _ (idle_served (tables_of s) (commands_left s) s.client s.stage ready)
           (inl (map shown_command c.in-Ok.commands.items, c.in-Ok.ensures.found, c.in-Ok.ensures.frame, refl))
           (ap (progress_at (tables_of s) _ s.client) ready.0
           ∙ ap (λ xs. Todo (frame_script (tables_of s) (map shown_command xs) s.client)) c.from_vec.ensures.items),
@@ -25,7 +26,8 @@ returns-in-Err-Bad-clause-hears c =
     let stands : is_over s.stage ≡ false = sym c.is_closed.ensures ∙ c.if-is_closed.false in
     let ready = idle_ready (commands_left s) s.stage c.requires.idle stands in
     inl (
-      hears_served (tables_of s) s.client _ c.args.text.now _ _ (idle_served (tables_of s) (commands_left s) s.client s.stage ready)
+      hears_served (tables_of s) s.client _ c.args.text.now
+          _ _ (idle_served (tables_of s) (commands_left s) s.client s.stage ready)
           (inr (c.in-Err-Bad.ensures.bad c.in-Err-Bad.field-0-is, refl))
           refl,
       c.requires.fresh,

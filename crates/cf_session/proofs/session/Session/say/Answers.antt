@@ -7,8 +7,10 @@ use Rattle.cf_session.proofs.session.Session.say.Goals as goal
 pub returns-in-Err-clause-acts : goal.returns-in-Err-clause-acts
 returns-in-Err-clause-acts c =
     inr (
-    falls_at_connected (tables_of c.args.self.now) c.args.id (shown_outcome c.args.outcome) (rest_of c.args.self.now) _ _ _
-    (sym c.is_connected-connects.ensures ∙ c.if-connects.true) (ap Some c.give_up.ensures.act) c.give_up.ensures.progress c.give_up.ensures.refusals
+    falls_at_connected (tables_of c.args.self.now) c.args.id (shown_outcome c.args.outcome) (rest_of c.args.self.now)
+    _ _ _
+    (sym c.is_connected-connects.ensures ∙ c.if-connects.true) (ap Some c.give_up.ensures.act)
+    c.give_up.ensures.progress c.give_up.ensures.refusals
     )
 
 pub returns-in-Err-2-clause-acts : goal.returns-in-Err-2-clause-acts

@@ -5,8 +5,11 @@ use Rattle.cf_shard.proofs.passes.Passes.lend_at.Goals as goal
 
 pub lend-requires : goal.lend-requires
 lend-requires g c =
-    named_get g.N.Naming.words c.self.inside.list.items c.args.shard _ _ c.self.invariant c.requires c.index_mut-pass.ensures.value ∙ sym c.shard_word.ensures
+    named_get g.N.Naming.words c.self.inside.list.items c.args.shard _ _ c.self.invariant c.requires
+    c.index_mut-pass.ensures.value ∙ sym c.shard_word.ensures
 
 pub returns-clause-word : goal.returns-clause-word
 returns-clause-word g c =
-    ap (λ (p : PassState). p.word) c.lend.ensures.lent ∙ named_get g.N.Naming.words c.self.inside.list.items c.args.shard _ _ c.self.invariant c.requires c.index_mut-pass.ensures.value
+    ap (λ (p : PassState). p.word) c.lend.ensures.lent
+    ∙ named_get g.N.Naming.words c.self.inside.list.items c.args.shard _ _ c.self.invariant c.requires
+    c.index_mut-pass.ensures.value

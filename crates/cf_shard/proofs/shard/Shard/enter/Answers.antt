@@ -5,4 +5,10 @@ pub returns-clause-ok : goal.returns-clause-ok
 returns-clause-ok g c =
     let s = c.self.inside in
     rw (← c.self.view_is)
-    (named_ok c.enter.result c.map_err.result _ _ _ c.map_err.ensures.cases (λ _ entered. λ i. record { streams = s.streams; presence = entered i; epochs = s.epochs.value; log = s.owner.log }) c.enter.ensures.ok)
+    (named_ok c.enter.result c.map_err.result _ _ _ c.map_err.ensures.cases
+    (λ _ entered. λ i. record {
+      streams = s.streams;
+      presence = entered i;
+      epochs = s.epochs.value;
+      log = s.owner.log;
+    }) c.enter.ensures.ok)

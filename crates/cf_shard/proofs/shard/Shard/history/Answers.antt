@@ -15,9 +15,13 @@ use Rattle.cf_shard.proofs.shard.Shard.history.Goals as goal
 -- what it makes of the owner
 made : (g : Over) (c : goal.After-note_opening g)
     → (c.note_opening.new.owner.word ≡ c.self.inside.owner.word)
-    × (c.note_opening.new.owner.log ≡ c.self.inside.owner.log ++ opening (stream_of c.self.inside.streams c.args.channel.now) c.args.channel.now c.in_ok-history.history.position.epoch [])
+    × (c.note_opening.new.owner.log ≡ c.self.inside.owner.log
+    ++ opening (stream_of c.self.inside.streams c.args.channel.now) c.args.channel.now
+    c.in_ok-history.history.position.epoch [])
 made g c =
-    noted _ _ _ _ _ c.follow.ensures.owner c.note_opening.ensures.owner (opening_stood c.self.inside.streams c.args.channel.now _ _ _ _ c.position.ensures.position c.top_of-stood.ensures)
+    noted _ _ _ _ _ c.follow.ensures.owner c.note_opening.ensures.owner
+    (opening_stood c.self.inside.streams c.args.channel.now _ _ _ _ c.position.ensures.position
+    c.top_of-stood.ensures)
 
 pub history-requires : goal.history-requires
 history-requires g c = stays_up _ _ _ c.args.channel.now c.self.invariant.0.state c.requires.set_up
@@ -25,17 +29,20 @@ history-requires g c = stays_up _ _ _ c.args.channel.now c.self.invariant.0.stat
 pub returns-in_err-history-clause-refusals : goal.returns-in_err-history-clause-refusals
 returns-in_err-history-clause-refusals g c =
     let p = err_from_is_err_and c.from_residual.result c.from_residual.ensures.1 in
-    history_refused_by g.E.Epochs.draws c.args.channel.now c.args.since _ _ _ _ _ p.0 _ c.self.view_is c.deref_mut.ensures.value p.1 p.2 c.in_err-history.ensures.refusals c.in_err-history.ensures.epochs
+    history_refused_by g.E.Epochs.draws c.args.channel.now c.args.since _ _ _ _ _ p.0 _ c.self.view_is
+    c.deref_mut.ensures.value p.1 p.2 c.in_err-history.ensures.refusals c.in_err-history.ensures.epochs
 
 pub returns-in_err-history-clause-err : goal.returns-in_err-history-clause-err
 returns-in_err-history-clause-err g c =
     let p = err_from_is_err_and c.from_residual.result c.from_residual.ensures.1 in
-    left_by _ _ _ _ p.0 _ c.self.view_is p.1 p.2 c.in_err-history.ensures.err (ap (λ o. o.log) c.follow.ensures.owner) (λ other. c.in_err-history.ensures.epochs.undrawn other ∙ c.deref_mut.ensures.value)
+    left_by _ _ _ _ p.0 _ c.self.view_is p.1 p.2 c.in_err-history.ensures.err (ap (λ o. o.log) c.follow.ensures.owner)
+    (λ other. c.in_err-history.ensures.epochs.undrawn other ∙ c.deref_mut.ensures.value)
 
 pub invariant_of-self-2 : goal.invariant_of-self-2
 invariant_of-self-2 g c = (
   kept _ _ _ _ _ _ _ c.self.invariant.0 c.in_ok-history.ensures.log (made g c).0 (made g c).1,
-  fresh-opened g.E.Epochs.draws _ _ _ [] _ _ _ _ (rw c.deref_mut.ensures.value at c.in_ok-history.ensures.epochs.drawn) (made g c).1 tt c.self.invariant.1,
+  fresh-opened g.E.Epochs.draws _ _ _ [] _ _ _ _ (rw c.deref_mut.ensures.value at c.in_ok-history.ensures.epochs.drawn)
+      (made g c).1 tt c.self.invariant.1,
 )
 
 pub returns-clause-answer : goal.returns-clause-answer
@@ -64,7 +71,8 @@ returns-clause-makes g c = record {
 
 pub returns-clause-seen : goal.returns-clause-seen
 returns-clause-seen g c =
-    follows _ _ _ _ _ _ 0 c.follow.ensures.seen.0 c.follow.ensures.pass (made g c).1 c.note_opening.ensures.whole c.note_opening.ensures.share
+    follows _ _ _ _ _ _ 0 c.follow.ensures.seen.0 c.follow.ensures.pass (made g c).1 c.note_opening.ensures.whole
+    c.note_opening.ensures.share
 
 pub returns-clause-stays : goal.returns-clause-stays
 returns-clause-stays g c = record {
@@ -90,5 +98,7 @@ returns-then-not-has_room-clause-stays g c = record {
 pub invariant_of-self-in_err-history : goal.invariant_of-self-in_err-history
 invariant_of-self-in_err-history g c = (
   still _ _ _ _ _ _ c.self.invariant.0 c.in_err-history.ensures.err c.follow.ensures.owner,
-  fresh-still g.E.Epochs.draws _ _ _ _ (call-leads g.E.Epochs.draws _ _ _ _ _ (rw c.deref_mut.ensures.value at c.history.ensures.epochs)) (ap (λ o. o.log) c.follow.ensures.owner) c.self.invariant.1,
+  fresh-still g.E.Epochs.draws _ _ _ _ (call-leads g.E.Epochs.draws
+      _ _ _ _ _ (rw c.deref_mut.ensures.value at c.history.ensures.epochs)) (ap (λ o. o.log) c.follow.ensures.owner)
+      c.self.invariant.1,
 )

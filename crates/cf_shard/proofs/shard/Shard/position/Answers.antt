@@ -9,5 +9,6 @@ returns-clause-answer g c = rw (← c.self.view_is) c.position.ensures.list_answ
 
 pub returns-clause-by_log : goal.returns-clause-by_log
 returns-clause-by_log g c =
-    subst (λ log. IsPosition g.N.Naming.namespaces log c.args.channel.now c.position.result) (sym (ap (λ (p : PassState). p.log) c.follow.ensures.pass))
+    subst (λ log. IsPosition g.N.Naming.namespaces log c.args.channel.now c.position.result)
+    (sym (ap (λ (p : PassState). p.log) c.follow.ensures.pass))
     (position_by_log _ _ _ _ _ _ c.self.invariant.0 c.position.ensures.list_answer)

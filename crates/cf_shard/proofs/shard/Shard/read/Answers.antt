@@ -13,9 +13,13 @@ use Rattle.cf_shard.proofs.shard.Shard.read.Goals as goal
 -- what it makes of the owner
 made : (g : Over) (c : goal.After-count-mark g)
     → (c.note_opening.new.owner.word ≡ c.self.inside.owner.word)
-    × (c.note_opening.new.owner.log ≡ c.self.inside.owner.log ++ opening (stream_of c.self.inside.streams c.args.channel.now) c.args.channel.now c.in_ok-recovery.recovery.position.epoch [])
+    × (c.note_opening.new.owner.log ≡ c.self.inside.owner.log
+    ++ opening (stream_of c.self.inside.streams c.args.channel.now) c.args.channel.now
+    c.in_ok-recovery.recovery.position.epoch [])
 made g c =
-    noted _ _ _ _ _ c.follow.ensures.owner c.note_opening.ensures.owner (opening_stood c.self.inside.streams c.args.channel.now _ _ _ _ c.position.ensures.position c.top_of-stood.ensures)
+    noted _ _ _ _ _ c.follow.ensures.owner c.note_opening.ensures.owner
+    (opening_stood c.self.inside.streams c.args.channel.now _ _ _ _ c.position.ensures.position
+    c.top_of-stood.ensures)
 
 pub read-requires : goal.read-requires
 read-requires g c = stays_up _ _ _ c.args.channel.now c.self.invariant.0.state c.requires.set_up
@@ -23,12 +27,14 @@ read-requires g c = stays_up _ _ _ c.args.channel.now c.self.invariant.0.state c
 pub returns-in_err-recovery-clause-err : goal.returns-in_err-recovery-clause-err
 returns-in_err-recovery-clause-err g c =
     let p = err_from_is_err_and c.from_residual.result c.from_residual.ensures.1 in
-    left_by _ _ _ _ p.0 _ c.self.view_is p.1 p.2 c.in_err-recovery.ensures.err (ap (λ o. o.log) c.follow.ensures.owner) (λ other. c.in_err-recovery.ensures.epochs.undrawn other ∙ c.deref_mut.ensures.value)
+    left_by _ _ _ _ p.0 _ c.self.view_is p.1 p.2 c.in_err-recovery.ensures.err (ap (λ o. o.log) c.follow.ensures.owner)
+    (λ other. c.in_err-recovery.ensures.epochs.undrawn other ∙ c.deref_mut.ensures.value)
 
 pub invariant_of-self-2 : goal.invariant_of-self-2
 invariant_of-self-2 g c = (
   kept _ _ _ _ _ _ _ c.self.invariant.0 c.in_ok-recovery.ensures.log (made g c).0 (made g c).1,
-  fresh-opened g.E.Epochs.draws _ _ _ [] _ _ _ _ (rw c.deref_mut.ensures.value at c.in_ok-recovery.ensures.epochs.drawn) (made g c).1 tt c.self.invariant.1,
+  fresh-opened g.E.Epochs.draws _ _ _ [] _ _ _ _ (rw c.deref_mut.ensures.value at c.in_ok-recovery.ensures.epochs.drawn)
+      (made g c).1 tt c.self.invariant.1,
 )
 
 pub returns-clause-makes : goal.returns-clause-makes
@@ -43,11 +49,13 @@ returns-clause-answer g c = rw (← c.self.view_is) c.in_ok-recovery.ensures.lis
 
 pub returns-clause-by_log : goal.returns-clause-by_log
 returns-clause-by_log g c =
-    read_by_log _ _ _ _ _ _ _ _ _ _ _ c.self.invariant.0 c.in_ok-recovery.ensures.lists.answer c.follow.ensures.seen.0 (c.note_opening.ensures.whole.0 ∙ (made g c).1)
+    read_by_log _ _ _ _ _ _ _ _ _ _ _ c.self.invariant.0 c.in_ok-recovery.ensures.lists.answer c.follow.ensures.seen.0
+    (c.note_opening.ensures.whole.0 ∙ (made g c).1)
 
 pub returns-clause-seen : goal.returns-clause-seen
 returns-clause-seen g c =
-    follows _ _ _ _ _ _ 0 c.follow.ensures.seen.0 c.follow.ensures.pass (made g c).1 c.note_opening.ensures.whole c.note_opening.ensures.share
+    follows _ _ _ _ _ _ 0 c.follow.ensures.seen.0 c.follow.ensures.pass (made g c).1 c.note_opening.ensures.whole
+    c.note_opening.ensures.share
 
 pub returns-clause-stays : goal.returns-clause-stays
 returns-clause-stays g c = record {
@@ -73,5 +81,7 @@ returns-then-not-has_room-clause-stays g c = record {
 pub invariant_of-self-in_err-recovery : goal.invariant_of-self-in_err-recovery
 invariant_of-self-in_err-recovery g c = (
   still _ _ _ _ _ _ c.self.invariant.0 c.in_err-recovery.ensures.err c.follow.ensures.owner,
-  fresh-still g.E.Epochs.draws _ _ _ _ (call-leads g.E.Epochs.draws _ _ _ _ _ (rw c.deref_mut.ensures.value at c.read.ensures.epochs)) (ap (λ o. o.log) c.follow.ensures.owner) c.self.invariant.1,
+  fresh-still g.E.Epochs.draws _ _ _ _ (call-leads g.E.Epochs.draws
+      _ _ _ _ _ (rw c.deref_mut.ensures.value at c.read.ensures.epochs)) (ap (λ o. o.log) c.follow.ensures.owner)
+      c.self.invariant.1,
 )

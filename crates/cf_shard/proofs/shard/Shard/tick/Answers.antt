@@ -26,7 +26,8 @@ returns-clause-makes g c =
     let old = c.self.inside.streams in record {
       streams =
           rw (← c.self.view_is)
-          (λ q. c.tick.ensures.streams q ∙ ap (λ n. after_tick c.args.now n (stream_of old q)) (seconds_stay _ old _ q c.self.invariant.0.state));
+          (λ q. c.tick.ensures.streams q ∙ ap (λ n. after_tick c.args.now n (stream_of old q))
+          (seconds_stay _ old _ q c.self.invariant.0.state));
       log = rw (← c.self.view_is) (made g c).1;
       undrawn = ap (λ (s : Lent g.row.E.Denot). s.epochs) c.self.view_is;
       presence = rw (← c.self.view_is) c.tick-2.ensures.left;
@@ -46,7 +47,8 @@ returns-clause-by_log g c = (
 
 pub returns-clause-seen : goal.returns-clause-seen
 returns-clause-seen g c =
-    follows _ _ _ _ _ _ 0 c.follow.ensures.seen.0 c.follow.ensures.pass (made g c).1 c.note_due.ensures.whole c.note_due.ensures.share
+    follows _ _ _ _ _ _ 0 c.follow.ensures.seen.0 c.follow.ensures.pass (made g c).1 c.note_due.ensures.whole
+    c.note_due.ensures.share
 
 pub returns-clause-whole : goal.returns-clause-whole
 returns-clause-whole g c = c.note_due.ensures.whole.0

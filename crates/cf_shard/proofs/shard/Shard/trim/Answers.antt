@@ -10,14 +10,18 @@ use Rattle.cf_shard.proofs.shard.Shard.trim.Goals as goal
 -- what it makes of the owner
 made : (g : Over) (c : goal.After-note_on g)
     → (c.note_on.new.owner.word ≡ c.self.inside.owner.word)
-    × (c.note_on.new.owner.log ≡ c.self.inside.owner.log ++ entries_of_trim c.self.inside.streams c.args.channel.now c.args.count)
+    × (c.note_on.new.owner.log ≡ c.self.inside.owner.log
+    ++ entries_of_trim c.self.inside.streams c.args.channel.now c.args.count)
 made g c =
-    noted _ _ _ _ _ c.follow.ensures.owner c.note_on.ensures.owner (if_stands_stood c.self.inside.streams c.args.channel.now _ _ _ c.position.ensures.position c.top_of-stood.ensures)
+    noted _ _ _ _ _ c.follow.ensures.owner c.note_on.ensures.owner
+    (if_stands_stood c.self.inside.streams c.args.channel.now _ _ _ c.position.ensures.position
+    c.top_of-stood.ensures)
 
 pub invariant_of-self-2 : goal.invariant_of-self-2
 invariant_of-self-2 g c = (
   kept _ _ _ _ _ _ _ c.self.invariant.0 c.trim.ensures.log (made g c).0 (made g c).1,
-  fresh-more g.E.Epochs.draws _ _ _ _ _ (λ _ w. w) (made g c).1 (none-if_stands (stream_of c.self.inside.streams c.args.channel.now) _ refl) c.self.invariant.1,
+  fresh-more g.E.Epochs.draws _ _ _ _ _ (λ _ w. w) (made g c).1
+      (none-if_stands (stream_of c.self.inside.streams c.args.channel.now) _ refl) c.self.invariant.1,
 )
 
 pub returns-clause-makes : goal.returns-clause-makes
@@ -33,7 +37,8 @@ returns-clause-by_log g c =
 
 pub returns-clause-seen : goal.returns-clause-seen
 returns-clause-seen g c =
-    follows _ _ _ _ _ _ 0 c.follow.ensures.seen.0 c.follow.ensures.pass (made g c).1 c.note_on.ensures.whole c.note_on.ensures.share
+    follows _ _ _ _ _ _ 0 c.follow.ensures.seen.0 c.follow.ensures.pass (made g c).1 c.note_on.ensures.whole
+    c.note_on.ensures.share
 
 pub returns-clause-stays : goal.returns-clause-stays
 returns-clause-stays g c = record {

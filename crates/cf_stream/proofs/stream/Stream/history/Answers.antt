@@ -12,7 +12,9 @@ returns-clause-answer c =
     record {
       at = c.position-position.ensures;
       in_epoch = c.in-Some.ensures.in_epoch;
-      first = c.in_ok-publications.ensures ∙ ap (λ n. take n (stream_after c.args.self.now (c.args.self.now.top - c.in-Some.count))) many ∙ ap (take (allowed_by c.args.limit)) c.in-Some.ensures.newer;
+      first = c.in_ok-publications.ensures ∙ ap (λ n. take n
+          (stream_after c.args.self.now (c.args.self.now.top - c.in-Some.count))) many
+          ∙ ap (take (allowed_by c.args.limit)) c.in-Some.ensures.newer;
     }
 
 pub returns-clause-list : goal.returns-clause-list

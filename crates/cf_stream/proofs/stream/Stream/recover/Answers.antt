@@ -12,7 +12,8 @@ returns-clause-answer c =
       at = c.position-position.ensures;
       exact = exact_by _ _ _ _ c.missed_since-missed.ensures c.is_some.ensures;
       run = rw c.is_some.ensures
-          (c.in_ok-publications.ensures ∙ ap (λ n. take 300 (stream_after c.args.self.now (c.args.self.now.top - n))) c.unwrap_or.ensures
+          (c.in_ok-publications.ensures ∙ ap (λ n. take 300 (stream_after c.args.self.now (c.args.self.now.top - n)))
+          c.unwrap_or.ensures
           ∙ recovered_run c.args.self.now c.args.since c.missed_since-missed.result c.missed_since-missed.ensures);
     }
 

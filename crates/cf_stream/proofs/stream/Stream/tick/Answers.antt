@@ -12,8 +12,12 @@ returns-clause-ticked c =
     let at = ap (λ i. is_over i.published c.args.seconds c.args.now) (sym c.deref.ensures) ∙ sym c.has_passed.ensures in
     rw (← c.self.view_is)
     (elim c.if-has_passed.branch [
-      | then-has_passed w ↦ rw (w.self-inside-is, w.clear.ensures, w.deref_mut.ensures.value) (ticked_over (the_view c.self.inside) c.args.now c.args.seconds (at ∙ w.if-has_passed.true))
-      | else-has_passed w ↦ rw w.self-inside-is (ticked_early (the_view c.self.inside) c.args.now c.args.seconds (at ∙ w.if-has_passed.false))
+      | then-has_passed w ↦
+          rw (w.self-inside-is, w.clear.ensures, w.deref_mut.ensures.value)
+          (ticked_over (the_view c.self.inside) c.args.now c.args.seconds (at ∙ w.if-has_passed.true))
+      | else-has_passed w ↦
+          rw w.self-inside-is (ticked_early (the_view c.self.inside) c.args.now c.args.seconds
+          (at ∙ w.if-has_passed.false))
     ])
 
 pub returns-clause-list : goal.returns-clause-list

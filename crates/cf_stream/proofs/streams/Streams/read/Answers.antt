@@ -13,15 +13,18 @@ use Rattle.cf_stream.proofs.streams.Streams.read.Goals as goal
 pub returns-clause-makes : goal.returns-clause-makes
 returns-clause-makes g c =
     rw (← c.self.view_is, get-by_channel, ← c.size_for-size.ensures.size)
-    (IfOk-weaker c.read_in.result _ _ (λ (r : Recovery) h. kept_by c.self.inside.namespaces c.self.inside.map c.read_in.new.map c.args.channel.now _ h) c.read_in.ensures.ok)
+    (IfOk-weaker c.read_in.result _ _ (λ (r : Recovery) h. kept_by c.self.inside.namespaces c.self.inside.map
+    c.read_in.new.map c.args.channel.now _ h) c.read_in.ensures.ok)
 
 pub returns-clause-err : goal.returns-clause-err
 returns-clause-err g c =
     rw (← c.self.view_is)
-    (on_err_weaker c.read_in.result (λ h. kept_same c.self.inside.namespaces c.self.inside.map c.read_in.new.map h) c.read_in.ensures.err)
+    (on_err_weaker c.read_in.result (λ h. kept_same c.self.inside.namespaces c.self.inside.map c.read_in.new.map h)
+    c.read_in.ensures.err)
 
 pub returns-clause-answer : goal.returns-clause-answer
-returns-clause-answer g c = rw (← c.self.view_is, get-by_channel, ← c.size_for-size.ensures.size) c.read_in.ensures.answer
+returns-clause-answer g c =
+    rw (← c.self.view_is, get-by_channel, ← c.size_for-size.ensures.size) c.read_in.ensures.answer
 
 pub returns-clause-epochs : goal.returns-clause-epochs
 returns-clause-epochs g c = rw (← c.self.view_is, get-by_channel) (record {
@@ -34,7 +37,9 @@ pub returns-clause-refusals : goal.returns-clause-refusals
 returns-clause-refusals g c = IfErr-weaker c.read_in.result _ _ (λ e h other. (h other).0) c.read_in.ensures.refusals
 
 pub returns-clause-log : goal.returns-clause-log
-returns-clause-log g c = IfOk-weaker c.read_in.result _ _ (λ (r : Recovery) h. rw h (Adds-read c.args.self.now c.args.channel.now r.position.epoch c.args.now)) (returns-clause-makes g c)
+returns-clause-log g c =
+    IfOk-weaker c.read_in.result _ _ (λ (r : Recovery) h. rw h
+    (Adds-read c.args.self.now c.args.channel.now r.position.epoch c.args.now)) (returns-clause-makes g c)
 
 pub returns-clause-lists : goal.returns-clause-lists
 returns-clause-lists g c =
@@ -46,8 +51,12 @@ returns-clause-lists g c =
 
 pub invariant_of-self : goal.invariant_of-self
 invariant_of-self g c =
-    quiet_by c.read_in.result c.self.inside.quiet_until c.quiet_after_use-self-inside.result c.self.inside.namespaces c.self.inside.map c.read_in.new.map c.args.channel.now
-    (λ (r : Recovery). used_at (stood_or (get_by_text c.self.inside.map c.args.channel.now) r.position.epoch c.size_for-size.result) c.args.now)
+    quiet_by c.read_in.result c.self.inside.quiet_until c.quiet_after_use-self-inside.result c.self.inside.namespaces
+    c.self.inside.map c.read_in.new.map c.args.channel.now
+    (λ (r : Recovery). used_at (stood_or (get_by_text c.self.inside.map c.args.channel.now) r.position.epoch
+    c.size_for-size.result) c.args.now)
     c.quiet_after_use-self-inside.ensures.before c.self.invariant c.read_in.ensures.ok c.read_in.ensures.err
-    (λ r t early h. used_quiet (get_by_text c.self.inside.map c.args.channel.now) r.position.epoch c.size_for-size.result c.args.now _ t
-    (not_over c.args.now unused_seconds c.quiet_after_use-self-inside.result t c.quiet_after_use-self-inside.ensures.used early) h)
+    (λ r t early h. used_quiet (get_by_text c.self.inside.map c.args.channel.now) r.position.epoch
+    c.size_for-size.result c.args.now _ t
+    (not_over c.args.now unused_seconds c.quiet_after_use-self-inside.result t
+    c.quiet_after_use-self-inside.ensures.used early) h)

@@ -12,7 +12,8 @@ pub returns-clause-streams : goal.returns-clause-streams
 returns-clause-streams c =
     rw (← c.self.view_is) (λ q. rw (get-by_channel c.self.inside.map q)
     (get-by_channel c.tick_in.new.streams q
-    ∙ get-after_tick c.args.now (seconds_at c.self.inside.namespaces) c.self.inside.map c.tick_in.new.streams c.tick_in.ensures.ordered c.tick_in.ensures.entries q))
+    ∙ get-after_tick c.args.now (seconds_at c.self.inside.namespaces) c.self.inside.map c.tick_in.new.streams
+    c.tick_in.ensures.ordered c.tick_in.ensures.entries q))
 
 pub returns-clause-log : goal.returns-clause-log
 returns-clause-log c =
@@ -20,7 +21,8 @@ returns-clause-log c =
     (Adds-tick _ (by_channel c.tick_in.new.streams) c.args.now
     (λ q. rw (get-by_channel c.self.inside.map q)
     (get-by_channel c.tick_in.new.streams q
-    ∙ get-after_tick c.args.now (seconds_at c.self.inside.namespaces) c.self.inside.map c.tick_in.new.streams c.tick_in.ensures.ordered c.tick_in.ensures.entries q)))
+    ∙ get-after_tick c.args.now (seconds_at c.self.inside.namespaces) c.self.inside.map c.tick_in.new.streams
+    c.tick_in.ensures.ordered c.tick_in.ensures.entries q)))
 
 pub returns-clause-due : goal.returns-clause-due
 returns-clause-due c = λ q. rw (returns-clause-streams c q) (changed_by_tick c.args.now _ _)
@@ -41,4 +43,8 @@ returns-then-now-self-clause-log c =
 
 pub returns-then-now-self-clause-due : goal.returns-then-now-self-clause-due
 returns-then-now-self-clause-due c =
-    rw (← c.self.view_is) (λ q. (λ h. refl, λ h. rw (get-by_channel c.self.inside.map q) (c.self.invariant c.args.now c.if-now-self.true q)))
+    rw (← c.self.view_is) (λ q. (
+      λ h. refl,
+      λ h. rw (get-by_channel c.self.inside.map q)
+          (c.self.invariant c.args.now c.if-now-self.true q),
+    ))

@@ -8,25 +8,33 @@ use Rattle.cf_subs.proofs.channel_walk.ChannelWalkIterator.next.Goals as goal
 pub invariant_of-self : goal.invariant_of-self
 invariant_of-self c =
     let w = c.self.inside in let b = w.seats.now.blocks in
-    (session_step b.held w.session c.in-Some.at c.row.result c.next_in_session-self-inside.result (subst (IsSessionWalk b.held w.session) c.in-Some.is c.self.invariant) b.apart c.row.ensures c.next_in_session-self-inside.ensures).stands
+    (session_step b.held w.session c.in-Some.at c.row.result c.next_in_session-self-inside.result
+    (subst (IsSessionWalk b.held w.session) c.in-Some.is c.self.invariant) b.apart c.row.ensures
+    c.next_in_session-self-inside.ensures).stands
 
 pub returns-in-Some-clause-steps : goal.returns-in-Some-clause-steps
 returns-in-Some-clause-steps c =
     let w = c.self.inside in let b = w.seats.now.blocks in
     sym c.self.view_is ∙ ap (channels_onward b.held w.session) c.in-Some.is
-    ∙ (session_step b.held w.session c.in-Some.at c.row.result c.next_in_session-self-inside.result (subst (IsSessionWalk b.held w.session) c.in-Some.is c.self.invariant) b.apart c.row.ensures c.next_in_session-self-inside.ensures).left
+    ∙ (session_step b.held w.session c.in-Some.at c.row.result c.next_in_session-self-inside.result
+    (subst (IsSessionWalk b.held w.session) c.in-Some.is c.self.invariant) b.apart c.row.ensures
+    c.next_in_session-self-inside.ensures).left
 
 pub returns-in-Some-clause-goes : goal.returns-in-Some-clause-goes
 returns-in-Some-clause-goes c =
     let w = c.self.inside in let b = w.seats.now.blocks in
     let rest : List ℕ = channels_onward b.held w.session c.next_in_session-self-inside.result in
-    let steps : c.args.self.now ≡ c.row.result.channel ∷ rest = sym c.self.view_is ∙ ap (channels_onward b.held w.session) c.in-Some.is
-    ∙ (session_step b.held w.session c.in-Some.at c.row.result c.next_in_session-self-inside.result (subst (IsSessionWalk b.held w.session) c.in-Some.is c.self.invariant) b.apart c.row.ensures c.next_in_session-self-inside.ensures).left in
+    let steps : c.args.self.now ≡ c.row.result.channel ∷ rest =
+    sym c.self.view_is ∙ ap (channels_onward b.held w.session) c.in-Some.is
+    ∙ (session_step b.held w.session c.in-Some.at c.row.result c.next_in_session-self-inside.result
+    (subst (IsSessionWalk b.held w.session) c.in-Some.is c.self.invariant) b.apart c.row.ensures
+    c.next_in_session-self-inside.ensures).left in
     let less : length rest < length c.args.self.now = omega (arith, ap length steps) in
     record { on = λ _. (tt, tt, less); keeps = tt; rests = λ _. tt }
 
 pub returns-in-None-clause-steps : goal.returns-in-None-clause-steps
 returns-in-None-clause-steps c =
     let w = c.self.inside in
-    let e = sym c.self.view_is ∙ ap (map (λ h. h.value.row.channel)) (walk_ends session_of w.session w.seats.now.blocks.held w.next c.in-None.is) in
+    let e = sym c.self.view_is ∙ ap (map (λ h. h.value.row.channel))
+    (walk_ends session_of w.session w.seats.now.blocks.held w.next c.in-None.is) in
     (e, e)

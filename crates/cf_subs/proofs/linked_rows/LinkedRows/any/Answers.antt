@@ -10,16 +10,20 @@ use Rattle.cf_subs.proofs.linked_rows.LinkedRows.any.Goals as goal
 
 pub returns-in-Some-clause-held : goal.returns-in-Some-clause-held
 returns-in-Some-clause-held c =
-    let b = c.args.self.now.seats.blocks in any_held channel_of b.held c.in-Some.number.now c.first_in_channel.result c.first_in_channel.ensures b.apart
+    let b = c.args.self.now.seats.blocks in
+    any_held channel_of b.held c.in-Some.number.now c.first_in_channel.result c.first_in_channel.ensures b.apart
 
 pub returns-in-Some-clause-none : goal.returns-in-Some-clause-none
 returns-in-Some-clause-none c =
     let r = c.args.self.now in let hs = r.seats.blocks.held in let k = c.in-Some.number.now in
     let there : is_some c.first_in_channel.result ≡ true =
-    ap is_some c.first_in_channel.ensures ∙ first_there channel_of r.channels hs k c.next.new.self c.requires.whole.channels (c.keys.ensures.has k ∙ ap (λ ks. list_any (nat_eq k) ks) c.in-Some.ensures.steps) in
+    ap is_some c.first_in_channel.ensures ∙ first_there channel_of r.channels hs k c.next.new.self
+    c.requires.whole.channels (c.keys.ensures.has k ∙ ap (λ ks. list_any (nat_eq k) ks) c.in-Some.ensures.steps) in
     λ none. absurd cc
 
 pub returns-in-None-clause-none : goal.returns-in-None-clause-none
 returns-in-None-clause-none c =
     let r = c.args.self.now in let hs = r.seats.blocks.held in
-    λ _. all_none channel_of hs (λ k. none_is channel_of r.channels hs k c.requires.whole.channels (nothing (get nat_eq r.channels k) (c.keys.ensures.has k ∙ ap (λ ks. list_any (nat_eq k) ks) c.in-None.ensures.steps.0)))
+    λ _. all_none channel_of hs (λ k. none_is channel_of r.channels hs k c.requires.whole.channels
+    (nothing (get nat_eq r.channels k) (c.keys.ensures.has k
+    ∙ ap (λ ks. list_any (nat_eq k) ks) c.in-None.ensures.steps.0)))

@@ -7,13 +7,18 @@ use Rattle.cf_subs.proofs.linked_rows.LinkedRows.detach.Goals as goal
 
 pub unlink-requires-clause-held : goal.unlink-requires-clause-held
 unlink-requires-clause-held c =
-    let b = c.loop-here.self.seats.blocks in first_is_held session_of c.args.session b.held c.in-Some.here (sym c.first_in_session.ensures ∙ c.in-Some.is) b.apart
+    let b = c.loop-here.self.seats.blocks in
+    first_is_held session_of c.args.session b.held c.in-Some.here (sym c.first_in_session.ensures ∙ c.in-Some.is)
+    b.apart
 
 pub loop-here-smaller : goal.loop-here-smaller
 loop-here-smaller c =
-    let b = c.loop-here.self.seats.blocks in let less = first_less session_of c.args.session b.held c.in-Some.here (sym c.first_in_session.ensures ∙ c.in-Some.is) b.apart in
+    let b = c.loop-here.self.seats.blocks in let less =
+    first_less session_of c.args.session b.held c.in-Some.here (sym c.first_in_session.ensures ∙ c.in-Some.is)
+    b.apart in
     let same = ap length c.unlink.ensures.rows in
-    let fewer : length (rows_of c.unlink.new.self.seats.blocks.held) < length (rows_of b.held) = omega (arith, less, same) in fewer
+    let fewer : length (rows_of c.unlink.new.self.seats.blocks.held) < length (rows_of b.held) =
+    omega (arith, less, same) in fewer
 
 pub loop-here-preserved : goal.loop-here-preserved
 loop-here-preserved c =
@@ -22,10 +27,12 @@ loop-here-preserved c =
     let less = first_less session_of s b.held c.in-Some.here first b.apart in
     let same = ap length c.unlink.ensures.rows in let before = c.loop-here.invariant.2 in (
       c.unlink.ensures.whole,
-      ap (λ l. without_session l s) c.unlink.ensures.rows ∙ first_goes s b.held c.in-Some.here first b.apart ∙ c.loop-here.invariant.1,
+      ap (λ l. without_session l s) c.unlink.ensures.rows ∙ first_goes s b.held c.in-Some.here first b.apart
+          ∙ c.loop-here.invariant.1,
       omega (arith, less, same, before),
     )
 
 pub returns-clause-rows : goal.returns-clause-rows
 returns-clause-rows c =
-    sym (none_left c.args.session c.loop-here.self.seats.blocks.held (sym c.first_in_session.ensures ∙ c.in_default.is)) ∙ c.loop-here.invariant.1
+    sym (none_left c.args.session c.loop-here.self.seats.blocks.held (sym c.first_in_session.ensures ∙ c.in_default.is))
+    ∙ c.loop-here.invariant.1

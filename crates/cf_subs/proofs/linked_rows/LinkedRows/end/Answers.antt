@@ -6,6 +6,8 @@ use Rattle.cf_subs.proofs.linked_rows.LinkedRows.end.Goals as goal
 
 pub loop-here-smaller : goal.loop-here-smaller
 loop-here-smaller c =
-    let b = c.loop-here.rows.seats.blocks in let less = held_less b.held c.in-Some.here.ptr c.in-Some.ensures.held b.apart in
+    let b = c.loop-here.rows.seats.blocks in let less =
+    held_less b.held c.in-Some.here.ptr c.in-Some.ensures.held b.apart in
     let same = ap length c.unlink.ensures.rows in
-    let fewer : length (rows_of c.unlink.new.self.seats.blocks.held) < length (rows_of b.held) = omega (arith, less, same) in fewer
+    let fewer : length (rows_of c.unlink.new.self.seats.blocks.held) < length (rows_of b.held) =
+    omega (arith, less, same) in fewer

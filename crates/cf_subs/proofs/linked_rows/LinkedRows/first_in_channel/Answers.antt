@@ -5,4 +5,5 @@ use Rattle.cf_subs.proofs.Heads.{first_is}
 use Rattle.cf_subs.proofs.linked_rows.LinkedRows.first_in_channel.Goals as goal
 
 pub returns : goal.returns
-returns c = let r = c.args.self.now in c.first.ensures ∙ first_is channel_of r.channels r.seats.blocks.held c.args.channel c.requires.whole.channels
+returns c = let r = c.args.self.now in
+    c.first.ensures ∙ first_is channel_of r.channels r.seats.blocks.held c.args.channel c.requires.whole.channels

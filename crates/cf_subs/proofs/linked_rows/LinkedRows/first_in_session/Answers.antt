@@ -5,4 +5,5 @@ use Rattle.cf_subs.proofs.Heads.{first_is}
 use Rattle.cf_subs.proofs.linked_rows.LinkedRows.first_in_session.Goals as goal
 
 pub returns : goal.returns
-returns c = let r = c.args.self.now in c.first.ensures ∙ first_is session_of r.sessions r.seats.blocks.held c.args.session c.requires.whole.sessions
+returns c = let r = c.args.self.now in
+    c.first.ensures ∙ first_is session_of r.sessions r.seats.blocks.held c.args.session c.requires.whole.sessions

@@ -20,13 +20,18 @@ returns-clause-whole c =
     let by_session : IsHeaded session_of sessions hs = search rules in record {
       linked = c.link-at.ensures.linked;
       channels = headed_push channel_of channels c.grow.new.ends hs c.link-at.new.self.blocks.held n by_channel
-          (subst (λ (r : Row). SetsAt channels c.grow.new.ends r.channel (Some (grown (get nat_eq channels r.channel) c.link-at.result))) same c.grow.ensures) c.link-at.ensures.lists.channels;
+          (subst (λ (r : Row). SetsAt channels c.grow.new.ends r.channel
+          (Some (grown (get nat_eq channels r.channel) c.link-at.result))) same c.grow.ensures)
+          c.link-at.ensures.lists.channels;
       sessions = headed_push session_of sessions c.grow-2.new.ends hs c.link-at.new.self.blocks.held n by_session
-          (subst (λ (r : Row). SetsAt sessions c.grow-2.new.ends r.session (Some (grown (get nat_eq sessions r.session) c.link-at.result))) same c.grow-2.ensures) c.link-at.ensures.lists.sessions;
+          (subst (λ (r : Row). SetsAt sessions c.grow-2.new.ends r.session
+          (Some (grown (get nat_eq sessions r.session) c.link-at.result))) same c.grow-2.ensures)
+          c.link-at.ensures.lists.sessions;
     }
 
 pub returns-clause-ok : goal.returns-clause-ok
 returns-clause-ok c =
     let hs = c.args.self.now.seats.blocks.held in
     let same : c.args.row ≡ c.in_ok-block.block.value.row = search rules in
-    c.link-at.ensures.lists.rows ∙ map-append (λ (h : Held LinkedRow). h.value.row) hs (held c.link-at.result.ptr c.in_ok-block.block.value ∷ []) ∙ ap (λ (r : Row). rows_of hs ++ r ∷ []) (sym same)
+    c.link-at.ensures.lists.rows ∙ map-append (λ (h : Held LinkedRow). h.value.row) hs
+    (held c.link-at.result.ptr c.in_ok-block.block.value ∷ []) ∙ ap (λ (r : Row). rows_of hs ++ r ∷ []) (sym same)

@@ -7,9 +7,13 @@ pub returns-clause-whole : goal.returns-clause-whole
 returns-clause-whole c =
     let r = c.args.self.now in let b = r.seats.blocks in let left = c.unlink-seat.new.self.blocks.held in record {
       linked = c.unlink-seat.ensures.linked;
-      channels = headed_without channel_of (λ x. x.before_in_channel) (λ x. x.after_in_channel) r.channels c.shrink.new.ends b.held left c.args.at.ptr c.unlink-seat.result c.requires.whole.linked.0 b.apart c.unlink-seat.ensures.seat
+      channels = headed_without channel_of (λ x. x.before_in_channel) (λ x. x.after_in_channel) r.channels
+          c.shrink.new.ends b.held left c.args.at.ptr c.unlink-seat.result c.requires.whole.linked.0 b.apart
+          c.unlink-seat.ensures.seat
           c.requires.whole.channels c.shrink.ensures c.unlink-seat.ensures.lists.channels;
-      sessions = headed_without session_of (λ x. x.before_in_session) (λ x. x.after_in_session) r.sessions c.shrink-2.new.ends b.held left c.args.at.ptr c.unlink-seat.result c.requires.whole.linked.1 b.apart c.unlink-seat.ensures.seat
+      sessions = headed_without session_of (λ x. x.before_in_session) (λ x. x.after_in_session) r.sessions
+          c.shrink-2.new.ends b.held left c.args.at.ptr c.unlink-seat.result c.requires.whole.linked.1 b.apart
+          c.unlink-seat.ensures.seat
           c.requires.whole.sessions c.shrink-2.ensures c.unlink-seat.ensures.lists.sessions;
     }
 

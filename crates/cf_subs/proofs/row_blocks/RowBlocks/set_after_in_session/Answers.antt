@@ -8,7 +8,8 @@ use Rattle.cf_subs.proofs.row_blocks.RowBlocks.set_after_in_session.Goals as goa
 pub returns-in-Some : goal.returns-in-Some
 returns-in-Some c =
     let hs = c.args.self.now.blocks.held in let change = after_in_session c.args.after in
-    c.put.ensures.held ∙ put_changed change c.in-Some.at c.get-seat.result.now hs c.get-seat.ensures c.args.self.now.blocks.apart ∙ ap (λ o. changed change o hs) (sym c.in-Some.is)
+    c.put.ensures.held ∙ put_changed change c.in-Some.at c.get-seat.result.now hs c.get-seat.ensures
+    c.args.self.now.blocks.apart ∙ ap (λ o. changed change o hs) (sym c.in-Some.is)
 
 pub returns-in_default : goal.returns-in_default
 returns-in_default c =

@@ -7,5 +7,6 @@ use Rattle.cf_subs.proofs.table.SubTable.channel_count.Goals as goal
 pub count-requires-clause-fits : goal.count-requires-clause-fits
 count-requires-clause-fits c =
     let rows : AreRows c.args.self.now = c.walk_session.ensures.rows in
-    let few : length (channels_of c.args.self.now c.args.session) ≤ most_rows = few_channels c.args.self.now c.args.session rows.few in
+    let few : length (channels_of c.args.self.now c.args.session) ≤ most_rows =
+    few_channels c.args.self.now c.args.session rows.few in
     inl (rw c.walk_session.ensures.channels (omega (arith, few)))

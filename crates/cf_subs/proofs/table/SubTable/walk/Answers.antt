@@ -9,12 +9,18 @@ use Rattle.cf_subs.proofs.table.SubTable.walk.Goals as goal
 
 pub invariant_of-result : goal.invariant_of-result
 invariant_of-result c =
-    let b = c.self.inside.rows.seats.blocks in (c.self.invariant.whole.linked.0, stands_first channel_of c.args.channel b.held c.first_in_channel.result b.apart c.first_in_channel.ensures)
+    let b = c.self.inside.rows.seats.blocks in (
+      c.self.invariant.whole.linked.0,
+      stands_first channel_of c.args.channel b.held c.first_in_channel.result
+          b.apart c.first_in_channel.ensures,
+    )
 
 pub returns-clause-sessions : goal.returns-clause-sessions
 returns-clause-sessions c =
     let b = c.self.inside.rows.seats.blocks in
-    ap (map (λ h. h.value.row.session)) (walk_starts channel_of c.args.channel b.held c.first_in_channel.result b.apart c.first_in_channel.ensures) ∙ channel_walk b.held c.args.channel ∙ ap (λ l. sessions_of l c.args.channel) c.self.view_is
+    ap (map (λ h. h.value.row.session)) (walk_starts channel_of c.args.channel b.held c.first_in_channel.result b.apart
+    c.first_in_channel.ensures) ∙ channel_walk b.held c.args.channel
+    ∙ ap (λ l. sessions_of l c.args.channel) c.self.view_is
 
 pub returns-clause-each : goal.returns-clause-each
 returns-clause-each c = record {

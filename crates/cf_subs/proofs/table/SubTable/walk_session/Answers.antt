@@ -9,12 +9,18 @@ use Rattle.cf_subs.proofs.table.SubTable.walk_session.Goals as goal
 
 pub invariant_of-result : goal.invariant_of-result
 invariant_of-result c =
-    let b = c.self.inside.rows.seats.blocks in (c.self.invariant.whole.linked.1, stands_first session_of c.args.session b.held c.first_in_session.result b.apart c.first_in_session.ensures)
+    let b = c.self.inside.rows.seats.blocks in (
+      c.self.invariant.whole.linked.1,
+      stands_first session_of c.args.session b.held c.first_in_session.result
+          b.apart c.first_in_session.ensures,
+    )
 
 pub returns-clause-channels : goal.returns-clause-channels
 returns-clause-channels c =
     let b = c.self.inside.rows.seats.blocks in
-    ap (map (λ h. h.value.row.channel)) (walk_starts session_of c.args.session b.held c.first_in_session.result b.apart c.first_in_session.ensures) ∙ session_walk b.held c.args.session ∙ ap (λ l. channels_of l c.args.session) c.self.view_is
+    ap (map (λ h. h.value.row.channel)) (walk_starts session_of c.args.session b.held c.first_in_session.result b.apart
+    c.first_in_session.ensures) ∙ session_walk b.held c.args.session
+    ∙ ap (λ l. channels_of l c.args.session) c.self.view_is
 
 pub returns-clause-each : goal.returns-clause-each
 returns-clause-each c = record {

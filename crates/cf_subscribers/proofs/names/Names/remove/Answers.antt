@@ -12,6 +12,10 @@ pub returns-in-Some-clause-numbered : goal.returns-in-Some-clause-numbered
 returns-in-Some-clause-numbered c =
     let old = c.args.self.now in
     let numbers : SetsNumber c.args.self.now.numbers c.remove-number.new.self (string_bytes c.in-Some.name) None =
-    subst (λ (t : List ℕ). SetsNumber c.args.self.now.numbers c.remove-number.new.self t None) c.as_str.ensures.value (λ q. grind (arith, text_keys)) in
-    numbered_less (number_at old) (get_by_text c.remove-number.new.self) (name_at old) (λ n. option_map string_bytes (Rattle.slab.specs.Slab.get c.try_remove.new.self n)) (string_bytes c.in-Some.name) c.args.number
-    c.requires.numbered (ap (option_map string_bytes) (sym c.try_remove.ensures.value ∙ c.in-Some.is)) numbers (set_by old.names c.try_remove.new.self c.args.number None c.try_remove.ensures.updates)
+    subst (λ (t : List ℕ). SetsNumber c.args.self.now.numbers c.remove-number.new.self t None) c.as_str.ensures.value
+    (λ q. grind (arith, text_keys)) in
+    numbered_less (number_at old) (get_by_text c.remove-number.new.self) (name_at old)
+    (λ n. option_map string_bytes (Rattle.slab.specs.Slab.get c.try_remove.new.self n))
+    (string_bytes c.in-Some.name) c.args.number
+    c.requires.numbered (ap (option_map string_bytes) (sym c.try_remove.ensures.value ∙ c.in-Some.is)) numbers
+    (set_by old.names c.try_remove.new.self c.args.number None c.try_remove.ensures.updates)

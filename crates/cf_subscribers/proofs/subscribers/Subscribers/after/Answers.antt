@@ -10,7 +10,8 @@ pub returns-in_default-clause-next : goal.returns-in_default-clause-next
 returns-in_default-clause-next c =
     let ns = c.self.inside.names in
     ap (after_in c.args.session)
-    (sym (sessions_unknown (number_at ns) (name_at ns) c.self.invariant.numbered c.args.channel.now c.self.inside.rows c.self.invariant.used (sym c.number.ensures ∙ c.in_default.is))
+    (sym (sessions_unknown (number_at ns) (name_at ns) c.self.invariant.numbered c.args.channel.now c.self.inside.rows
+    c.self.invariant.used (sym c.number.ensures ∙ c.in_default.is))
     ∙ ap (λ l. sessions_of l c.args.channel.now) c.self.view_is)
 
 pub returns-clause-next : goal.returns-clause-next
@@ -19,5 +20,6 @@ returns-clause-next c =
     c.after.ensures.next
     ∙ after_same c.args.session (rows.sessions_of c.self.inside.rows c.in-Some.number)
     ∙ ap (after_in c.args.session)
-    (sym (sessions_known (number_at ns) (name_at ns) c.self.invariant.numbered c.args.channel.now c.self.inside.rows c.in-Some.number c.self.invariant.used (sym c.number.ensures ∙ c.in-Some.is))
+    (sym (sessions_known (number_at ns) (name_at ns) c.self.invariant.numbered c.args.channel.now c.self.inside.rows
+    c.in-Some.number c.self.invariant.used (sym c.number.ensures ∙ c.in-Some.is))
     ∙ ap (λ l. sessions_of l c.args.channel.now) c.self.view_is)

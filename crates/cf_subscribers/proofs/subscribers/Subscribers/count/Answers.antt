@@ -7,4 +7,5 @@ use Rattle.cf_subscribers.proofs.subscribers.Subscribers.count.Goals as goal
 
 pub returns : goal.returns
 returns c =
-    c.channel_count.ensures ∙ sym (channels_named (name_at c.self.inside.names) c.self.inside.rows c.args.session) ∙ ap (λ l. length (channels_of l c.args.session)) c.self.view_is
+    c.channel_count.ensures ∙ sym (channels_named (name_at c.self.inside.names) c.self.inside.rows c.args.session)
+    ∙ ap (λ l. length (channels_of l c.args.session)) c.self.view_is

@@ -7,7 +7,8 @@ abbrev pub invariant-loop-number : goal.invariant-loop-number
 invariant-loop-number l =
     record {
       kept : AreKept l.self-inside.names l.self-inside.rows;
-      left : without_session (named l.self-inside.names l.self-inside.rows) l.session ≡ without_session l.fn.self l.session;
+      left : without_session (named l.self-inside.names l.self-inside.rows) l.session
+          ≡ without_session l.fn.self l.session;
       fewer : length l.self-inside.rows ≤ l.count;
     }
 

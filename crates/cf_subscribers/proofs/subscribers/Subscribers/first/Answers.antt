@@ -10,7 +10,8 @@ pub returns-in_default-clause-first : goal.returns-in_default-clause-first
 returns-in_default-clause-first c =
     let ns = c.self.inside.names in
     ap (λ l. slice_get l 0)
-    (sym (sessions_unknown (number_at ns) (name_at ns) c.self.invariant.numbered c.args.channel.now c.self.inside.rows c.self.invariant.used (sym c.number.ensures ∙ c.in_default.is))
+    (sym (sessions_unknown (number_at ns) (name_at ns) c.self.invariant.numbered c.args.channel.now c.self.inside.rows
+    c.self.invariant.used (sym c.number.ensures ∙ c.in_default.is))
     ∙ ap (λ l. sessions_of l c.args.channel.now) c.self.view_is)
 
 pub returns-clause-first : goal.returns-clause-first
@@ -18,5 +19,6 @@ returns-clause-first c =
     let ns = c.self.inside.names in
     c.first.ensures.first
     ∙ ap (λ l. slice_get l 0)
-    (sym (sessions_known (number_at ns) (name_at ns) c.self.invariant.numbered c.args.channel.now c.self.inside.rows c.in-Some.number c.self.invariant.used (sym c.number.ensures ∙ c.in-Some.is))
+    (sym (sessions_known (number_at ns) (name_at ns) c.self.invariant.numbered c.args.channel.now c.self.inside.rows
+    c.in-Some.number c.self.invariant.used (sym c.number.ensures ∙ c.in-Some.is))
     ∙ ap (λ l. sessions_of l c.args.channel.now) c.self.view_is)

@@ -9,11 +9,13 @@ pub returns-in-Some : goal.returns-in-Some
 returns-in-Some c =
     let ns = c.self.inside.names in
     c.has.ensures.followed
-    ∙ sym (follows_known (number_at ns) (name_at ns) c.self.invariant.numbered c.args.channel.now c.self.inside.rows c.in-Some.number c.args.session c.self.invariant.used (sym c.number.ensures ∙ c.in-Some.is))
+    ∙ sym (follows_known (number_at ns) (name_at ns) c.self.invariant.numbered c.args.channel.now c.self.inside.rows
+    c.in-Some.number c.args.session c.self.invariant.used (sym c.number.ensures ∙ c.in-Some.is))
     ∙ ap (λ l. follows l c.args.channel.now c.args.session) c.self.view_is
 
 pub returns-in-None : goal.returns-in-None
 returns-in-None c =
     let ns = c.self.inside.names in
-    sym (follows_unknown (number_at ns) (name_at ns) c.self.invariant.numbered c.args.channel.now c.self.inside.rows c.args.session c.self.invariant.used (sym c.number.ensures ∙ c.in-None.is))
+    sym (follows_unknown (number_at ns) (name_at ns) c.self.invariant.numbered c.args.channel.now c.self.inside.rows
+    c.args.session c.self.invariant.used (sym c.number.ensures ∙ c.in-None.is))
     ∙ ap (λ l. follows l c.args.channel.now c.args.session) c.self.view_is

@@ -8,12 +8,14 @@ use Rattle.cf_subscribers.proofs.subscribers.Subscribers.walk.Goals as goal
 pub returns-in_default-clause-sessions : goal.returns-in_default-clause-sessions
 returns-in_default-clause-sessions c =
     let ns = c.self.inside.names in
-    sym (sessions_unknown (number_at ns) (name_at ns) c.self.invariant.numbered c.args.channel.now c.self.inside.rows c.self.invariant.used (sym c.number.ensures ∙ c.in_default.is))
+    sym (sessions_unknown (number_at ns) (name_at ns) c.self.invariant.numbered c.args.channel.now c.self.inside.rows
+    c.self.invariant.used (sym c.number.ensures ∙ c.in_default.is))
     ∙ ap (λ l. sessions_of l c.args.channel.now) c.self.view_is
 
 pub returns-clause-sessions : goal.returns-clause-sessions
 returns-clause-sessions c =
     let ns = c.self.inside.names in
     c.walk-rest.ensures.sessions
-    ∙ sym (sessions_known (number_at ns) (name_at ns) c.self.invariant.numbered c.args.channel.now c.self.inside.rows c.in-Some.number c.self.invariant.used (sym c.number.ensures ∙ c.in-Some.is))
+    ∙ sym (sessions_known (number_at ns) (name_at ns) c.self.invariant.numbered c.args.channel.now c.self.inside.rows
+    c.in-Some.number c.self.invariant.used (sym c.number.ensures ∙ c.in-Some.is))
     ∙ ap (λ l. sessions_of l c.args.channel.now) c.self.view_is

@@ -6,10 +6,12 @@ use Rattle.cf_wire.specs.Heads.{Comes}
 use Rattle.cf_wire.specs.Stages.{WireState}
 use Rattle.cf_wire.proofs.wire.Wire.accept.Goals as goal
 
-opens_at : {S : Type 0} (contents : S → Option (List ℕ)) (mid : S) (wire : WireState S) (a b x y : List ℕ) → a ≡ b → x ≡ y
+opens_at : {S : Type 0} (contents : S → Option (List ℕ)) (mid : S) (wire : WireState S) (a b x y : List ℕ) → a ≡ b
+    → x ≡ y
     → OpensBy contents mid a x wire → OpensBy contents mid b y wire
 opens_at contents mid wire a b x y same rest opens =
-    subst (λ head. OpensBy contents mid head y wire) same (subst (λ behind. OpensBy contents mid a behind wire) rest opens)
+    subst (λ head. OpensBy contents mid head y wire) same
+    (subst (λ behind. OpensBy contents mid a behind wire) rest opens)
 
 pub returns-in-Some-clause-opens : goal.returns-in-Some-clause-opens
 returns-in-Some-clause-opens g c =

@@ -5,6 +5,7 @@ use Rattle.cf_wire.proofs.wire.Wire.exchange.Given as goal
 
 abbrev pub invariant-loop-index : goal.invariant-loop-index
 invariant-loop-index g l = record {
-  turns : Part g.D.Desk.hears g.D.Desk.gives g.D.Desk.ready g.S.Read.remaining g.S.Write.contents l.index l.index most_bytes l.left going (place l.initial.desk l.initial.self) (place l.desk l.self);
+  turns : Part g.D.Desk.hears g.D.Desk.gives g.D.Desk.ready g.S.Read.remaining g.S.Write.contents l.index l.index
+      most_bytes l.left going (place l.initial.desk l.initial.self) (place l.desk l.self);
   opened : l.self.stage ≡ Open;
 }

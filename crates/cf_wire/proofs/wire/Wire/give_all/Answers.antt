@@ -6,13 +6,15 @@ use Rattle.cf_wire.proofs.wire.Wire.give_all.Goals as goal
 pub returns-in_default-clause-turns : goal.returns-in_default-clause-turns
 returns-in_default-clause-turns g c =
     turns_then _ _ _ _ _ _ _ _ _ _ _ _ _ _ _ _ _ _ _ c.loop-index.invariant.turns
-    (turns_one _ _ _ _ _ none 0 0 0 0 emptied _ _ c.in_default.ensures (c.loop-index.invariant.opened, refl) (omega arith) (omega arith) (omega arith) (inl (omega arith)) tt)
+    (turns_one _ _ _ _ _ none 0 0 0 0 emptied _ _ c.in_default.ensures (c.loop-index.invariant.opened, refl)
+    (omega arith) (omega arith) (omega arith) (inl (omega arith)) tt)
     (omega arith) (omega arith)
 
 pub returns-in-Err-clause-turns : goal.returns-in-Err-clause-turns
 returns-in-Err-clause-turns g c =
     turns_then _ _ _ _ _ _ _ _ _ _ _ _ _ _ _ _ _ _ _ c.loop-index.invariant.turns
-    (out_stopped _ _ _ _ _ _ _ _ _ c.in-Some.out c.in-Err.end c.loop-index.invariant.opened c.in-Some.ensures c.put.ensures.put c.in-Err.ensures.ends) (omega arith) (omega arith)
+    (out_stopped _ _ _ _ _ _ _ _ _ c.in-Some.out c.in-Err.end c.loop-index.invariant.opened c.in-Some.ensures
+    c.put.ensures.put c.in-Err.ensures.ends) (omega arith) (omega arith)
 
 pub returns-clause-turns : goal.returns-clause-turns
 returns-clause-turns g c = turns_sent_much _ _ _ _ _ _ _ _ _ _ c.loop-index.invariant.turns (omega arith) refl
@@ -20,6 +22,7 @@ returns-clause-turns g c = turns_sent_much _ _ _ _ _ _ _ _ _ _ c.loop-index.inva
 pub loop-index-preserved : goal.loop-index-preserved
 loop-index-preserved g c = record {
   turns = turns_then _ _ _ _ _ _ _ _ _ _ _ _ _ _ _ _ _ _ _ c.loop-index.invariant.turns
-      (out_open _ _ _ _ _ _ _ _ _ c.in-Some.out c.loop-index.invariant.opened c.in-Some.ensures c.put.ensures.put c.in_default-put.ensures.«open») (omega arith) (omega arith);
+      (out_open _ _ _ _ _ _ _ _ _ c.in-Some.out c.loop-index.invariant.opened c.in-Some.ensures c.put.ensures.put
+      c.in_default-put.ensures.«open») (omega arith) (omega arith);
   opened = c.in_default-put.ensures.«open»;
 }

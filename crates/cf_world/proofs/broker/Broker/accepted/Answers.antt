@@ -15,6 +15,7 @@ returns c = λ table m h.
     let number : suc i ≡ c.args.number = omega (arith, c.in_ok-index.ensures) in
     let got = c.get.ensures.lookup in
     let found : slice_get xs i ≡ option_copied c.get.result =
-    subst (λ (ys : List Accepted). slice_get ys i ≡ option_copied c.get.result) c.deref.ensures.value (copied_get c.get.result c.deref.result.now i got.0 got.1) in
+    subst (λ (ys : List Accepted). slice_get ys i ≡ option_copied c.get.result) c.deref.ensures.value
+    (copied_get c.get.result c.deref.result.now i got.0 got.1) in
     subst (λ (n : ℕ). Stands m.lists (option_copied c.get.result) (publication n m)) number
     (subst (λ (o : Option Accepted). Stands m.lists o (publication (suc i) m)) found (stands-at m xs i h.accepted))

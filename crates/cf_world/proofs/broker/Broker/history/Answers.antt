@@ -11,8 +11,10 @@ use Rattle.cf_world.proofs.broker.Broker.history.Goals as goal
 pub returns-in-Ok : goal.returns-in-Ok
 returns-in-Ok c = λ table m fresh set h.
     let e = c.in-Ok.ensures in
-    let lists : ListsAt c.args.self.now.streams c.args.channel.now None c.args.limit c.in-Ok.history.position c.in-Ok.history.publications.items = search rules in
-    history_shows table c.args.self.now _ m c.args.channel.now c.args.limit c.in-Ok.history h fresh e.epochs.drawn (ap (λ (k : StreamMap). k.namespaces) e.makes) e.lists.changes lists refl
+    let lists : ListsAt c.args.self.now.streams c.args.channel.now None c.args.limit c.in-Ok.history.position
+    c.in-Ok.history.publications.items = search rules in
+    history_shows table c.args.self.now _ m c.args.channel.now c.args.limit c.in-Ok.history h fresh e.epochs.drawn
+    (ap (λ (k : StreamMap). k.namespaces) e.makes) e.lists.changes lists refl
 
 pub returns-in-Err-NoEpoch : goal.returns-in-Err-NoEpoch
 returns-in-Err-NoEpoch c = λ table m fresh set h.

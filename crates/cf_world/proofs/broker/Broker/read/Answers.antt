@@ -10,7 +10,8 @@ use Rattle.cf_world.proofs.broker.Broker.read.Goals as goal
 pub returns-in-Ok : goal.returns-in-Ok
 returns-in-Ok c = λ table m fresh set h.
     let e = c.in-Ok.ensures in
-    read_shows table c.args.self.now _ m c.args.channel.now c.args.since c.in-Ok.recovery h fresh e.epochs.drawn (ap (λ (k : StreamMap). k.namespaces) e.makes) e.lists.changes e.lists.answer refl
+    read_shows table c.args.self.now _ m c.args.channel.now c.args.since c.in-Ok.recovery h fresh e.epochs.drawn
+    (ap (λ (k : StreamMap). k.namespaces) e.makes) e.lists.changes e.lists.answer refl
 
 pub returns-in-Err-NoEpoch : goal.returns-in-Err-NoEpoch
 returns-in-Err-NoEpoch c = λ table m fresh set h.

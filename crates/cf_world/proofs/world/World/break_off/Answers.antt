@@ -33,9 +33,16 @@ returns-in-Some-get_mut c = λ cfg past t.
     let peer = seat_found (get_by_text c.args.self.now.clients c.args.name.now) s sat in
     let gone = c.unseat.ensures peer.0 peer.1 in (
       break-goes t.0 c.args.name.now s sat (slice_get (slice_set c.args.self.now.hubs.items s.node g))
-          (changed c.args.self.now.hubs s.node c.in-Some-get_mut.hub.now g (Gone s.session) (c.in-Some-get_mut.ensures.variant.0 refl) c.in-Some-get_mut.ensures.value
-          (record { gone = c.detach-gone.ensures.gone; others = c.detach-gone.ensures.others; same = c.detach-gone.ensures.rest }))
+          (changed c.args.self.now.hubs s.node c.in-Some-get_mut.hub.now g (Gone s.session)
+          (c.in-Some-get_mut.ensures.variant.0 refl) c.in-Some-get_mut.ensures.value
+          (record {
+            gone = c.detach-gone.ensures.gone;
+            others = c.detach-gone.ensures.others;
+            same = c.detach-gone.ensures.rest;
+          }))
           (get_by_text c.unseat.new.clients) c.unseat.ensures,
-      served-gone cfg.namespaces t.1 t.0.nodes.apart c.args.name.now s (lends c.args.self.now.hubs s.node c.in-Some-get_mut.hub.now g (c.in-Some-get_mut.ensures.variant.0 refl) c.in-Some-get_mut.ensures.value) c.detach-gone.ensures.others
+      served-gone cfg.namespaces t.1 t.0.nodes.apart c.args.name.now s
+          (lends c.args.self.now.hubs s.node c.in-Some-get_mut.hub.now g (c.in-Some-get_mut.ensures.variant.0 refl)
+          c.in-Some-get_mut.ensures.value) c.detach-gone.ensures.others
           peer.1 peer.2 (record peer.0 { client = gone.client; seat = None }) refl gone.now,
     )

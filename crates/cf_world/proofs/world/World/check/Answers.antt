@@ -25,9 +25,11 @@ pub returns-in_default-get_mut : goal.returns-in_default-get_mut
 returns-in_default-get_mut c = λ cfg past t.
     let w : World = run cfg start past in
     let sat : seats_of (get_by_text c.args.self.now.clients) c.args.name.now ≡ Some c.in-Some.seat = search rules in (
-      check-goes t.0 (c.calls_are_alike.ensures w.broker.lists) (c.moves_are_alike.ensures w.broker.lists) c.args.name.now c.args.channel.now _ refl
+      check-goes t.0 (c.calls_are_alike.ensures w.broker.lists) (c.moves_are_alike.ensures w.broker.lists)
+          c.args.name.now c.args.channel.now _ refl
           c.in-Some.seat sat (slice_get c.args.self.now.hubs.items)
-          (missing c.args.self.now.hubs c.in-Some.seat.node (Checked c.in-Some.seat.session c.args.channel.now _) _ c.in_default-get_mut.ensures.variant.1),
+          (missing c.args.self.now.hubs c.in-Some.seat.node (Checked c.in-Some.seat.session c.args.channel.now _)
+          _ c.in_default-get_mut.ensures.variant.1),
       t.1,
     )
 
@@ -36,10 +38,24 @@ returns c = λ cfg past t.
     let w : World = run cfg start past in
     let sat : seats_of (get_by_text c.args.self.now.clients) c.args.name.now ≡ Some c.in-Some.seat = search rules in
     let g : Node = c.check-checked.new.self in
-    let does : Checked c.in-Some.seat.session c.args.channel.now c.position-top.result c.in-Some-get_mut.hub.now g = record { does = c.check-checked.ensures.session; same = c.check-checked.ensures.rest; none = unrefused g.refused (sym c.short.ensures ∙ c.if-short.false) } in (
-      check-goes t.0 (c.calls_are_alike.ensures w.broker.lists) (c.moves_are_alike.ensures w.broker.lists) c.args.name.now c.args.channel.now c.position-top.result
-          (top-stands cfg.namespaces c.args.self.now.broker w.broker t.0.broker c.args.channel.now c.position-top.result c.position-top.ensures.list_answer)
+    let does : Checked c.in-Some.seat.session c.args.channel.now c.position-top.result c.in-Some-get_mut.hub.now g =
+    record {
+      does = c.check-checked.ensures.session;
+      same = c.check-checked.ensures.rest;
+      none = unrefused g.refused (sym c.short.ensures ∙ c.if-short.false);
+    } in (
+      check-goes t.0 (c.calls_are_alike.ensures w.broker.lists) (c.moves_are_alike.ensures w.broker.lists)
+          c.args.name.now c.args.channel.now c.position-top.result
+          (top-stands cfg.namespaces c.args.self.now.broker w.broker t.0.broker c.args.channel.now c.position-top.result
+          c.position-top.ensures.list_answer)
           c.in-Some.seat sat (slice_get (slice_set c.args.self.now.hubs.items c.in-Some.seat.node g))
-          (changed c.args.self.now.hubs c.in-Some.seat.node c.in-Some-get_mut.hub.now g (Checked c.in-Some.seat.session c.args.channel.now c.position-top.result) (c.in-Some-get_mut.ensures.variant.0 refl) c.in-Some-get_mut.ensures.value does),
-      served-each cfg.namespaces (slice_get c.args.self.now.hubs.items) (slice_get (slice_set c.args.self.now.hubs.items c.in-Some.seat.node g)) t.1 (keeps-one (lends c.args.self.now.hubs c.in-Some.seat.node c.in-Some-get_mut.hub.now g (c.in-Some-get_mut.ensures.variant.0 refl) c.in-Some-get_mut.ensures.value) c.in-Some.seat.session (keeps-or-closes does.does.hit (checks plain c.args.channel.now c.position-top.result) (checks-waits plain c.args.channel.now c.position-top.result) _ _ does.does.here) does.does.others),
+          (changed c.args.self.now.hubs c.in-Some.seat.node c.in-Some-get_mut.hub.now g
+          (Checked c.in-Some.seat.session c.args.channel.now c.position-top.result)
+          (c.in-Some-get_mut.ensures.variant.0 refl) c.in-Some-get_mut.ensures.value does),
+      served-each cfg.namespaces (slice_get c.args.self.now.hubs.items)
+          (slice_get (slice_set c.args.self.now.hubs.items c.in-Some.seat.node g)) t.1
+          (keeps-one (lends c.args.self.now.hubs c.in-Some.seat.node c.in-Some-get_mut.hub.now g
+          (c.in-Some-get_mut.ensures.variant.0 refl) c.in-Some-get_mut.ensures.value) c.in-Some.seat.session
+          (keeps-or-closes does.does.hit (checks plain c.args.channel.now c.position-top.result)
+          (checks-waits plain c.args.channel.now c.position-top.result) _ _ does.does.here) does.does.others),
     )

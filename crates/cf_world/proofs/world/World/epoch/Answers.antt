@@ -11,7 +11,9 @@ pub returns : goal.returns
 returns c = λ cfg past t.
     let w : World = run cfg start past in
     let old : Code = c.args.self.now.broker in (
-      broker-goes t.0 (record old { epochs = c.add.new.self }) c.what_is_said_stays.ensures.grows (epoch_comes c.args.epoch w.broker) (grown-epoch c.args.epoch w.broker)
-          (epoch_shows cfg.namespaces old w.broker c.args.epoch c.add.new.self t.0.broker c.as_str-letters.ensures.letters_or_digits c.in_ok-add.ensures.waiting c.in_ok-add.ensures.came),
+      broker-goes t.0 (record old { epochs = c.add.new.self }) c.what_is_said_stays.ensures.grows
+          (epoch_comes c.args.epoch w.broker) (grown-epoch c.args.epoch w.broker)
+          (epoch_shows cfg.namespaces old w.broker c.args.epoch c.add.new.self t.0.broker
+          c.as_str-letters.ensures.letters_or_digits c.in_ok-add.ensures.waiting c.in_ok-add.ensures.came),
       t.1,
     )

@@ -14,6 +14,7 @@ returns c = λ cfg past t.
     let old : Code = c.args.self.now.broker in
     let new : Code = record old { streams = c.forget.new.self } in (
       forget-goes t.0 new c.what_is_said_stays.ensures.grows c.args.channel.now
-          (forget_shows cfg.namespaces old new w.broker c.args.channel.now t.0.broker (ap (λ (k : StreamMap). k.namespaces) c.forget.ensures.forgotten) refl refl c.forget.ensures.lists),
+          (forget_shows cfg.namespaces old new w.broker c.args.channel.now t.0.broker
+          (ap (λ (k : StreamMap). k.namespaces) c.forget.ensures.forgotten) refl refl c.forget.ensures.lists),
       t.1,
     )

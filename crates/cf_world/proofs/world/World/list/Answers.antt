@@ -18,6 +18,8 @@ pub returns : goal.returns
 returns c =
     let back : to_z w32 (of_z w32 c.args.limit) ≡ c.args.limit = to_z-of_z w32 c.args.limit c.ranges.limit in
     on_ok_weaker c.serve.result
-    (λ goes. subst (λ (z : ℤ). IsReadBack (client_command.List c.args.channel z) → GoesOn (event_by (client_command.List c.args.channel z) c.args.name.now) c.args.self.now c.serve.new.self) back goes
+    (λ goes. subst (λ (z : ℤ). IsReadBack (client_command.List c.args.channel z)
+    → GoesOn (event_by (client_command.List c.args.channel z) c.args.name.now) c.args.self.now c.serve.new.self)
+    back goes
     (limits c.args.limit c.ranges.limit))
     c.serve.ensures

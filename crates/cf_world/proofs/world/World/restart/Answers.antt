@@ -10,7 +10,12 @@ use Rattle.cf_world.proofs.ServedStill.{served-left}
 use Rattle.cf_world.proofs.world.World.restart.Goals as goal
 
 pub returns-in_default : goal.returns-in_default
-returns-in_default c = λ cfg past t. (restart-nowhere t.0 c.args.node (none-there c.args.self.now.hubs c.args.node c.in_default.ensures.variant.1), t.1)
+returns-in_default c =
+    λ cfg past t. (
+      restart-nowhere t.0 c.args.node
+          (none-there c.args.self.now.hubs c.args.node c.in_default.ensures.variant.1),
+      t.1,
+    )
 
 pub returns : goal.returns
 returns c = λ cfg past t.
@@ -18,8 +23,13 @@ returns c = λ cfg past t.
     let h : Node = c.in-Some.hub.now in
     let g : Node = c.new.result in
     let next : g ≡ empty n (h.boot + 1) = search rules in (
-      restart-goes t.0 n h (found c.args.self.now.hubs n h (c.in-Some.ensures.variant.0 refl) c.in-Some.ensures.value) (slice_get (slice_set c.args.self.now.hubs.items n g))
-          (changed c.args.self.now.hubs n h g (Renewed n) (c.in-Some.ensures.variant.0 refl) c.in-Some.ensures.value next)
+      restart-goes t.0 n h (found c.args.self.now.hubs n h (c.in-Some.ensures.variant.0 refl) c.in-Some.ensures.value)
+          (slice_get (slice_set c.args.self.now.hubs.items n g))
+          (changed c.args.self.now.hubs n h g (Renewed n) (c.in-Some.ensures.variant.0 refl) c.in-Some.ensures.value
+          next)
           (get_by_text c.unseat_all.new.clients) c.unseat_all.ensures,
-      served-left cfg.namespaces (slice_get c.args.self.now.hubs.items) (slice_get (slice_set c.args.self.now.hubs.items n g)) (get_by_text c.args.self.now.clients) (get_by_text c.unseat_all.new.clients) t.1 n (λ j ne. set-other c.args.self.now.hubs.items n j g ne) c.unseat_all.ensures,
+      served-left cfg.namespaces (slice_get c.args.self.now.hubs.items)
+          (slice_get (slice_set c.args.self.now.hubs.items n g)) (get_by_text c.args.self.now.clients)
+          (get_by_text c.unseat_all.new.clients) t.1 n (λ j ne. set-other c.args.self.now.hubs.items n j g ne)
+          c.unseat_all.ensures,
     )

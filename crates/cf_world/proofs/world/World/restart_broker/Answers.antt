@@ -16,6 +16,8 @@ returns c = λ cfg past t.
     let old : Code = c.args.self.now.broker in
     let new : Code = record old { streams = c.forget_all.new.self } in (
       broker-goes t.0 new c.what_is_said_stays.ensures.grows (forget_all w.broker) (grown-refl w.broker.lists)
-          (restart_shows cfg.namespaces old new w.broker t.0.broker (ap (λ (k : StreamMap). k.namespaces) c.forget_all.ensures.forgotten) refl refl c.forget_all.ensures.lists),
+          (restart_shows cfg.namespaces old new w.broker t.0.broker
+          (ap (λ (k : StreamMap). k.namespaces) c.forget_all.ensures.forgotten) refl refl
+          c.forget_all.ensures.lists),
       t.1,
     )

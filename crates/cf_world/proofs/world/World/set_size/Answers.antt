@@ -13,8 +13,10 @@ returns-then-has_namespace c = λ cfg past t.
     let old : Code = c.args.self.now.broker in
     let new : Code = record old { streams = c.set_size.new.self } in (
       size-goes t.0 new c.what_is_said_stays.ensures.grows c.args.name.now c.args.size
-          (size_shows_if cfg.namespaces old w.broker c.args.name.now c.args.size t.0.broker true (sym c.if-has_namespace.true ∙ c.has_namespace.ensures) new
-          (size_shows cfg.namespaces old new w.broker c.args.name.now c.args.size t.0.broker c.set_size.ensures.namespaces refl refl c.set_size.ensures.lists)),
+          (size_shows_if cfg.namespaces old w.broker c.args.name.now c.args.size t.0.broker true
+          (sym c.if-has_namespace.true ∙ c.has_namespace.ensures) new
+          (size_shows cfg.namespaces old new w.broker c.args.name.now c.args.size t.0.broker
+          c.set_size.ensures.namespaces refl refl c.set_size.ensures.lists)),
       t.1,
     )
 
@@ -23,6 +25,7 @@ returns-else-has_namespace c = λ cfg past t.
     let w : World = run cfg start past in
     let old : Code = c.args.self.now.broker in (
       size-goes t.0 old c.what_is_said_stays.ensures.grows c.args.name.now c.args.size
-          (size_shows_if cfg.namespaces old w.broker c.args.name.now c.args.size t.0.broker false (sym c.if-has_namespace.false ∙ c.has_namespace.ensures) old t.0.broker),
+          (size_shows_if cfg.namespaces old w.broker c.args.name.now c.args.size t.0.broker false
+          (sym c.if-has_namespace.false ∙ c.has_namespace.ensures) old t.0.broker),
       t.1,
     )

@@ -14,6 +14,7 @@ returns c = λ cfg past t.
     let old : Code = c.args.self.now.broker in
     let new : Code = record old { streams = c.trim.new.self } in (
       trim-goes t.0 new c.what_is_said_stays.ensures.grows c.args.channel.now c.args.count
-          (trim_shows cfg.namespaces old new w.broker c.args.channel.now c.args.count t.0.broker (ap (λ (k : StreamMap). k.namespaces) c.trim.ensures.trimmed) refl refl c.trim.ensures.lists),
+          (trim_shows cfg.namespaces old new w.broker c.args.channel.now c.args.count t.0.broker
+          (ap (λ (k : StreamMap). k.namespaces) c.trim.ensures.trimmed) refl refl c.trim.ensures.lists),
       t.1,
     )

@@ -9,4 +9,5 @@ pub returns : goal.returns
 returns c fs reads =
     let members = c.args.self.now in
     let key = c.args.key.now in
-    subst (λ o. Finds members.text.now o (look_up key fs)) (sym (c.copied.ensures ∙ c.value_of.ensures)) (looked_up members.text.now key members.found.items fs reads)
+    subst (λ o. Finds members.text.now o (look_up key fs)) (sym (c.copied.ensures ∙ c.value_of.ensures))
+    (looked_up members.text.now key members.found.items fs reads)

@@ -5,4 +5,5 @@ use Rattle.tests_of_libraries.proofs.KindsTell.{is_object}
 use Rattle.tests_of_libraries.proofs.texts.json.vectors.members_of.Goals as goal
 
 pub members-requires : goal.members-requires
-members-requires c = let e = c.in-Some.ensures in let k = is_object e.0 e.2 in (k.0, subst (λ t. IsAt c.args.text.now t c.in-Some.span) k.1 e.1)
+members-requires c = let e = c.in-Some.ensures in let k = is_object e.0 e.2 in
+    (k.0, subst (λ t. IsAt c.args.text.now t c.in-Some.span) k.1 e.1)

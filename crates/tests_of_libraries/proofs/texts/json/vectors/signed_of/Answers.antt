@@ -5,4 +5,5 @@ use Rattle.tests_of_libraries.proofs.KindsTell.{is_number}
 use Rattle.tests_of_libraries.proofs.texts.json.vectors.signed_of.Goals as goal
 
 pub read_signed-requires : goal.read_signed-requires
-read_signed-requires c = let e = c.in-Some.ensures in let k = is_number e.0 e.2 in (k.0, subst (λ t. IsAt c.args.text.now t c.in-Some.span) k.1 e.1)
+read_signed-requires c = let e = c.in-Some.ensures in let k = is_number e.0 e.2 in
+    (k.0, subst (λ t. IsAt c.args.text.now t c.in-Some.span) k.1 e.1)
