@@ -12,8 +12,8 @@ use crate::shared::Shared;
 use cf_node_hub::{Begun, NodeHub};
 use cf_order::Pass;
 use cf_presence::Stats;
-use cf_protocol::{Info, Position};
-use cf_session::Session;
+use cf_protocol::Position;
+use cf_session::{Publish, Session};
 use cf_shard::{Naming, Refused, ShardWords};
 use cf_stream::{History, Published, Recovery};
 use std::alloc::Global;
@@ -63,19 +63,13 @@ pub(crate) trait Backend {
     /// Something goes wrong that is counted.
     fn count(&self, fault: NodeError);
 
-    /// A publish by a client, under a key, which may be none. Where what was published before went
-    /// to many of the node's clients, the worker of this node that brings it on is woken at once.
-    fn publish(
-        &self,
-        channel: &str,
-        body: String,
-        key: String,
-        info: Info,
-        now: u64,
-    ) -> Result<Published, Refused>
-        requires { IsSome (settings_of Self.Of.Naming.namespaces channel.now) }
-        ensures { IfOk result (WasPublished Self.Of.Naming.namespaces channel.now (string_bytes key)
-            (string_bytes body) info) };
+    /// A publish by a client. Where what was published before went to many of the node's clients,
+    /// the worker of this node that brings it on is woken at once.
+    fn publish(&self, publish: Publish, now: u64) -> Result<Published, Refused>
+        requires { IsSome
+            (settings_of Self.Of.Naming.namespaces (string_bytes publish.channel)) }
+        ensures { IfOk result (WasPublished Self.Of.Naming.namespaces (string_bytes publish.channel)
+            (string_bytes publish.key) (string_bytes publish.body) publish.info) };
 
     /// A read of the channel's stream for a subscription that has begun, from where it asked: what it answers, and a pass by which it
     /// was read, which has seen what its hub had seen as it began.

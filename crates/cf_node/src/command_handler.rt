@@ -12,8 +12,8 @@ use cf_hub::Queued;
 use cf_node_hub::history_reply;
 use cf_order::Pass;
 use cf_presence::Stats;
-use cf_protocol::{CloseCode, ErrorCode, Info, Position};
-use cf_session::CommandExecutor;
+use cf_protocol::{CloseCode, ErrorCode, Position};
+use cf_session::{CommandExecutor, Publish};
 use cf_stream::{History, Published};
 use std::collections::BTreeMap;
 
@@ -127,21 +127,14 @@ impl<'a, B: Backend> CommandExecutor for CommandHandler<'a, B> {
         channels.retain(|one| one.channel.as_str() != channel);
     }
 
-    fn publish(
-        &mut self,
-        channel: String,
-        key: String,
-        body: String,
-        info: Info,
-    ) -> Result<(), ErrorCode> {
+    fn publish(&mut self, publish: Publish) -> Result<(), ErrorCode> {
         if self.sees_end() {
             return Err(ErrorCode::Internal);
         }
-        let cost = cost_of(body.len(), self.backend.receivers(channel.as_str()));
+        let receivers = self.backend.receivers(publish.channel.as_str());
+        let cost = cost_of(publish.body.len(), receivers);
         self.cost = self.cost.saturating_add(cost);
-        let answer = self
-            .backend
-            .publish(channel.as_str(), body, key, info, self.now);
+        let answer = self.backend.publish(publish, self.now);
         self.has_published = true;
         if matches!(
             answer,

@@ -14,8 +14,8 @@ use cf_dispatch::keeps_presence;
 use cf_node_hub::{Begun, NodeHub};
 use cf_order::Pass;
 use cf_presence::Stats;
-use cf_protocol::{Info, Position};
-use cf_session::Session;
+use cf_protocol::Position;
+use cf_session::{Publish, Session};
 use cf_shard::{Naming, Refused};
 use cf_stream::{Epochs, History, Published, Recovery};
 use std::alloc::Global;
@@ -158,14 +158,14 @@ impl<'a, R: Wait, N: Naming, E: Epochs + Drop> Backend for LiveBackend<'a, R, N,
         }
     }
 
-    fn publish(
-        &self,
-        channel: &str,
-        body: String,
-        key: String,
-        info: Info,
-        now: u64,
-    ) -> Result<Published, Refused> {
+    fn publish(&self, publish: Publish, now: u64) -> Result<Published, Refused> {
+        let Publish {
+            channel,
+            key,
+            body,
+            info,
+        } = publish;
+        let channel = channel.as_str();
         let shard = shard_of(channel);
         let Some(mut pass) = taken(&self.passes, self.broker, shard) else {
             return Err(Refused::NoEpoch);

@@ -4,14 +4,19 @@ use Rattle.std.specs.String.{string_bytes}
 use Rattle.cf_protocol.specs.Outgoing as outgoing
 use Rattle.cf_protocol.specs.Shown.{shown_users}
 use Rattle.cf_session.specs.Calls as call
-use Rattle.cf_session.specs.Calls.{Answer, Refused, Done, Found, Attached}
+use Rattle.cf_session.specs.Calls.{Answer, Call, Refused, Done, Found, Attached}
 use Rattle.cf_session.specs.SessionMachine.{Act, Calls, Says, PassesPong, Closes}
 use Rattle.cf_session.specs.declared.kind.CommandKind.{CommandKind}
 use Rattle.cf_session.specs.declared.kind.CommandKind.TheVariants as kind
+use Rattle.cf_session.specs.declared.action.Publish.{Publish}
 use Rattle.cf_session.specs.declared.action.Action.{Action}
 use Rattle.cf_session.specs.declared.action.Action.TheVariants as action
 use Rattle.cf_session.specs.declared.action.Answer.{Answer as CodeAnswer}
 use Rattle.cf_session.specs.declared.action.Answer.TheVariants as answer
+
+abbrev pub asked_publish : Publish → Call
+asked_publish asked =
+    call.Publish (string_bytes asked.channel) (string_bytes asked.key) (string_bytes asked.body) asked.info
 
 abbrev pub shown_action : Action → Act
 shown_action (action.Attach user) = Calls (call.Attach (string_bytes user))
@@ -19,8 +24,7 @@ shown_action (action.Begin c id since) = Calls (call.Begin (string_bytes c) id s
 shown_action (action.Read c since) = Calls (call.Read (string_bytes c) since)
 shown_action (action.Finish c) = Calls (call.Finish (string_bytes c))
 shown_action (action.Leave c) = Calls (call.Leave (string_bytes c))
-shown_action (action.Publish c key body info) =
-    Calls (call.Publish (string_bytes c) (string_bytes key) (string_bytes body) info)
+shown_action (action.Publish asked) = Calls (asked_publish asked)
 shown_action (action.History c id limit since) = Calls (call.History (string_bytes c) id limit since)
 shown_action (action.Presence c) = Calls (call.Presence (string_bytes c))
 shown_action (action.Stats c) = Calls (call.Stats (string_bytes c))

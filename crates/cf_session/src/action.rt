@@ -3,6 +3,20 @@ use cf_presence::Stats;
 use cf_protocol::{CloseCode, ErrorCode, Info, Position};
 use std::collections::BTreeMap;
 
+/// What a client publishes, where, and who it is: one value from the session to the broker, so that no two of its texts change places
+/// on the way.
+#[derive(Drop)]
+pub struct Publish {
+    /// The channel's name.
+    pub channel: String,
+    /// By which a repeat is known. The empty key is none.
+    pub key: String,
+    /// The compact text of its data.
+    pub body: String,
+    /// The client that publishes.
+    pub info: Info,
+}
+
 /// What a session wants done by its node. All but `Say`, `Pong` and `Close` are calls, whose answer it waits for; the fields of a
 /// call are its arguments, without the session, the moment and the source of epochs.
 #[derive(Drop)]
@@ -30,13 +44,8 @@ pub enum Action {
     Leave {
         channel: String,
     },
-    /// The compact text `body` is published, by this client; under a key, or under the empty one, which is none.
-    Publish {
-        channel: String,
-        key: String,
-        body: String,
-        info: Info,
-    },
+    /// This is published.
+    Publish(Publish),
     /// The publications that the channel's stream holds, after `since` where it is there, are listed in the reply to the command of
     /// this id, which the node gives.
     History {

@@ -4,11 +4,11 @@ ghost use Rattle.cf_protocol.specs.Settings.{settings_of};
 ghost use Rattle.cf_session.specs.Calls as call;
 ghost use Rattle.cf_session.specs.Played.{ActHasStream, Gives, asked_kind};
 ghost use Rattle.cf_session.specs.SessionMachine.{Says, PassesPong, Closes};
-ghost use Rattle.cf_session.specs.Shown.{answer_kind, shown_action, shown_answer};
+ghost use Rattle.cf_session.specs.Shown.{answer_kind, asked_publish, shown_action, shown_answer};
 
-use crate::action::{Action, Answer};
+use crate::action::{Action, Answer, Publish};
 use cf_presence::Stats;
-use cf_protocol::{CloseCode, ErrorCode, Info, Position};
+use cf_protocol::{CloseCode, ErrorCode, Position};
 use std::collections::BTreeMap;
 
 /// What carries out the actions of one session: a hub, the streams, presence, and what the client is sent. It has a method for each
@@ -64,18 +64,10 @@ pub trait CommandExecutor {
         ensures does { Gives does self.old (call.Leave channel.now) Answer.Leave self.new }
         ensures namespaces { namespaces self.new ≡ namespaces self.old };
 
-    /// The compact text `body` is published, by this client; under a key, or under the empty one, which is none.
-    fn publish(
-        &mut self,
-        channel: String,
-        key: String,
-        body: String,
-        info: Info,
-    ) -> Result<(), ErrorCode>
-        requires { IsSome (settings_of (namespaces self.old) (string_bytes channel)) }
-        ensures does { Gives does self.old
-            (call.Publish (string_bytes channel) (string_bytes key) (string_bytes body) info)
-            (Answer.Publish result) self.new }
+    /// This is published.
+    fn publish(&mut self, publish: Publish) -> Result<(), ErrorCode>
+        requires { IsSome (settings_of (namespaces self.old) (string_bytes publish.channel)) }
+        ensures does { Gives does self.old (asked_publish publish) (Answer.Publish result) self.new }
         ensures namespaces { namespaces self.new ≡ namespaces self.old };
 
     /// The channel's stream is listed, after `since` where it is there, and the reply with its publications is given for the command
@@ -141,12 +133,7 @@ pub fn act<N: CommandExecutor>(node: &mut N, action: Action) -> Option<Answer>
             node.leave(channel.as_str());
             Some(Answer::Leave)
         }
-        Action::Publish {
-            channel,
-            key,
-            body,
-            info,
-        } => Some(Answer::Publish(node.publish(channel, key, body, info))),
+        Action::Publish(publish) => Some(Answer::Publish(node.publish(publish))),
         Action::History {
             channel,
             id,

@@ -17,7 +17,7 @@ mod session;
 mod stage;
 mod turn;
 
-pub use action::{Action, Answer};
+pub use action::{Action, Answer, Publish};
 pub use budget::{Budget, cost_of};
 pub use cf_wire::{Desk, TurnEnd, Wire, WireFault};
 pub use command_executor::{CommandExecutor, act};

@@ -15,7 +15,7 @@ ghost use Rattle.cf_session.specs.Shown.{shown_action, shown_answer, answer_kind
 ghost use Rattle.cf_session.specs.Standing.{tables_of, tokens_in, commands_left, rest_of, rest_with, progress_at, progress_of, is_idle, is_over, met_refused_memory, refusals, work_at, work_of, Keeps, HearsFrame, ActsNext, TakesAnswer, ActsOn, Begins, script_from, opening_script, Falls};
 ghost use Rattle.cf_session.specs.declared.kind.CommandKind.TheVariants as kind;
 
-use crate::action::{Action, Answer};
+use crate::action::{Action, Answer, Publish};
 use crate::kind::CommandKind;
 use crate::refusal::refusal_of;
 use crate::replied::{after_answer, is_connected};
@@ -459,12 +459,12 @@ impl<'a> Session<'a> {
             Data::Body(text) => text,
             Data::Absent | Data::TooDeep => String::new(self.alloc),
         };
-        let action = Action::Publish {
+        let action = Action::Publish(Publish {
             channel,
             key,
             body,
             info,
-        };
+        });
         let kind = CommandKind::Publish;
         Ok(Some(self.call(ScriptStage::Calling { id, kind }, action)))
     }

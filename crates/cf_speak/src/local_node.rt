@@ -13,9 +13,9 @@ ghost use Rattle.cf_speak.specs.Steps.{SaysAndBrings, brings_due, brings_newest,
 use crate::epochs::GivenEpochs;
 use cf_hub::Hub;
 use cf_presence::{Presence, PresenceError, Stats};
-use cf_protocol::{CloseCode, ErrorCode, Info, Namespaces, Outcome, Position};
+use cf_protocol::{CloseCode, ErrorCode, Namespaces, Outcome, Position};
 use cf_queue::Out;
-use cf_session::{CommandExecutor, hub_error, presence_error, reply_of, stream_error};
+use cf_session::{CommandExecutor, Publish, hub_error, presence_error, reply_of, stream_error};
 use cf_stream::{History, StreamRefusal, Streams};
 use std::alloc::{AllocError, Global};
 use std::collections::BTreeMap;
@@ -283,13 +283,13 @@ impl CommandExecutor for LocalNode {
     }
 
     // What a publish brings is due after its reply. A repeat brings nothing.
-    fn publish(
-        &mut self,
-        channel: String,
-        key: String,
-        body: String,
-        info: Info,
-    ) -> Result<(), ErrorCode> {
+    fn publish(&mut self, publish: Publish) -> Result<(), ErrorCode> {
+        let Publish {
+            channel,
+            key,
+            body,
+            info,
+        } = publish;
         match self.streams.publish(
             &mut self.epochs,
             channel.as_str(),

@@ -8,7 +8,7 @@ use Rattle.cf_session.specs.declared.action.Answer.TheVariants as answer
 use Rattle.cf_stream.specs.Streams.{StreamMap}
 use Rattle.cf_speak.specs.Shown.{scene_of}
 use Rattle.cf_speak.specs.Steps.{history_at}
-use Rattle.cf_speak.proofs.local_node.LocalNodeNode.history.Goals as goal
+use Rattle.cf_speak.proofs.local_node.LocalNodeCommandExecutor.history.Goals as goal
 
 -- it is answered, or memory was refused
 answered : {A B : Type 0} (P : Answer → Type 0) (r : Result Unit ErrorCode) → OnOk r A → OnErr r B → (B → ⊥)

@@ -4,7 +4,7 @@ use Rattle.cf_protocol.specs.Position.{Position}
 use Rattle.cf_session.specs.Calls.{Answer}
 use Rattle.cf_speak.specs.Scene.{Scene}
 use Rattle.cf_speak.specs.Steps.{Reads, read_at}
-use Rattle.cf_speak.proofs.local_node.LocalNodeNode.read.Goals as goal
+use Rattle.cf_speak.proofs.local_node.LocalNodeCommandExecutor.read.Goals as goal
 use Rattle.std.proofs.Common.{List}
 
 reads_at : (n : Option ℕ) (k : ℕ) (c : List ℕ) (since : Option Position) (s m : Scene) (a : Answer)

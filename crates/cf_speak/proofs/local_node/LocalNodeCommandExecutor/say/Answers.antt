@@ -1,6 +1,6 @@
 use Rattle.std.proofs.Common.{ap}
 use Rattle.cf_stream.specs.Streams.{StreamMap}
-use Rattle.cf_speak.proofs.local_node.LocalNodeNode.say.Goals as goal
+use Rattle.cf_speak.proofs.local_node.LocalNodeCommandExecutor.say.Goals as goal
 
 pub returns-clause-does : goal.returns-clause-does
 returns-clause-does c = record { remembered = c.tell.ensures.short; step = c.tell.ensures.says }
