@@ -41,13 +41,15 @@ pub(crate) fn carry_out_action(
             let _had = hub.leave(number, channel.as_str());
             Ok(Some(Answer::Leave))
         }
-        Action::Publish {
-            channel,
-            key,
-            body,
-            info,
-        } => {
-            let published = publish(broker, channel.as_str(), key.as_str(), body.as_str(), &info)?;
+        Action::Publish(asked) => {
+            let channel = asked.channel.as_str();
+            let published = publish(
+                broker,
+                channel,
+                asked.key.as_str(),
+                asked.body.as_str(),
+                &asked.info,
+            )?;
             Ok(Some(Answer::Publish(published)))
         }
         Action::History {

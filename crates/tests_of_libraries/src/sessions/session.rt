@@ -5,7 +5,7 @@ ghost use Rattle.cf_session.specs.Shown.{answer_kind};
 
 use crate::rows::{Subject, Table, Told};
 use cf_protocol::{ErrorCode, Namespaces, Tokens, close_reason, read_namespaces, read_tokens};
-use cf_session::{Action, Answer, CommandKind, Session, stream_error};
+use cf_session::{Action, Answer, CommandKind, Publish, Session, stream_error};
 use cf_stream::StreamRefusal;
 use std::alloc::Global;
 use std::process::Abort;
@@ -39,7 +39,7 @@ fn answer_to(alloc: Global, kind: CommandKind, channel: &str) -> Option<Answer>
 fn channel_of(action: &Action) -> &str {
     match action {
         Action::Read { channel, .. } => channel.as_str(),
-        Action::Publish { channel, .. } => channel.as_str(),
+        Action::Publish(publish) => publish.channel.as_str(),
         Action::History { channel, .. } => channel.as_str(),
         _ => "",
     }
@@ -67,18 +67,22 @@ fn tell(told: &mut Told, action: &Action) {
         Action::Read { .. } => told.tell("read"),
         Action::Finish { .. } => told.tell("finish"),
         Action::Leave { .. } => told.tell("leave"),
-        Action::Publish {
-            key,
-            body,
-            info,
-            ..
-        } if key.is_empty() => told.tell(format_args!("publish {body} {}", info.client)),
-        Action::Publish {
-            key,
-            body,
-            info,
-            ..
-        } => told.tell(format_args!("publish {key}: {body} {}", info.client)),
+        Action::Publish(
+            Publish {
+                key,
+                body,
+                info,
+                ..
+            },
+        ) if key.is_empty() => told.tell(format_args!("publish {body} {}", info.client)),
+        Action::Publish(
+            Publish {
+                key,
+                body,
+                info,
+                ..
+            },
+        ) => told.tell(format_args!("publish {key}: {body} {}", info.client)),
         Action::History { id, limit, .. } => told.tell(format_args!("history {id} {limit}")),
         Action::Say(text) => told.tell(text),
         Action::Pong => told.tell("pong"),
