@@ -3,7 +3,7 @@
 use Rattle.std.specs.Prelude.{◌≡◌, ◌≤◌, List, IsSome}
 use Rattle.cf_protocol.specs.LogEntry.{Entry}
 use Rattle.cf_protocol.specs.LogEntry.Entry.{Trim, Forget}
-use Rattle.cf_protocol.specs.Settings.{NamespaceTable, entry_at}
+use Rattle.cf_protocol.specs.Settings.{NamespaceTable, entry_at, largest_size}
 use Rattle.cf_shard.specs.LogAnswer.{IsTrimmed, IsForgotten, IsSized, IsTicked, RefusesEntry, RefusesSize}
 use Rattle.cf_shard.specs.declared.refusal.Refused.{Refused}
 use Rattle.cf_shard.specs.declared.refusal.Refused.TheVariants.{AtLastCount}
@@ -14,7 +14,7 @@ use Rattle.cf_broker.specs.declared.change.Change.TheVariants.{KeepNewest, EndSt
 abbrev pub MayBeMade : NamespaceTable → Change → Type 0
 MayBeMade t (KeepNewest c n) = Unit {0}
 MayBeMade t (EndStream c) = Unit {0}
-MayBeMade t (SetSize name n) = IsSome (entry_at t name.now) × ((1 ≤ n) × (n ≤ 10000))
+MayBeMade t (SetSize name n) = IsSome (entry_at t name.now) × ((1 ≤ n) × (n ≤ largest_size))
 MayBeMade t (Tick now) = Unit {0}
 
 abbrev pub IsMade : NamespaceTable → (seen after : List Entry) → Change → Type 0

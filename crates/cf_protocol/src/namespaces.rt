@@ -7,6 +7,7 @@ ghost use Rattle.cf_protocol.specs.SettingsRead.{IsFoundBy, AddsLetter, HasMost,
 ghost use Rattle.cf_protocol.specs.declared.settings.Settings.{Settings as SettingsValue};
 
 use crate::fault::ReadFault;
+use crate::limits::LARGEST_SIZE;
 use crate::settings::Settings;
 use crate::table::value_of;
 use crate::words::{count_of, cut_name, cut_part, is_word};
@@ -15,8 +16,6 @@ use std::marker::Model;
 
 /// The longest name of a namespace, in bytes.
 const MAX_NAME: usize = 32;
-/// The most publications that a stream may hold.
-const MAX_SIZE: u64 = 10_000;
 /// The most seconds for which a stream may hold them, thirty days.
 const MAX_SECONDS: u64 = 2_592_000;
 
@@ -65,7 +64,7 @@ impl Namespaces {
 
     /// Sets the size of a namespace that is set up. It takes no memory.
     pub fn set_size(&mut self, name: &str, size: usize)
-        requires { (1 ≤ size) × (size ≤ 10000) }
+        requires { (1 ≤ size) × (size ≤ LARGEST_SIZE) }
         ensures { self.new ≡ with_size name.now size self.old }
     {
         for entry in self.entries.iter_mut() {
@@ -133,7 +132,7 @@ fn read_settings(text: &str) -> Option<Settings>
 {
     let (size_text, rest) = cut_part(text)?;
     let (seconds_text, flags) = cut_part(rest)?;
-    let size = count_of(size_text, MAX_SIZE)?;
+    let size = count_of(size_text, LARGEST_SIZE)?;
     let seconds = count_of(seconds_text, MAX_SECONDS)?;
     read_flags(flags, size as usize, seconds)
 }

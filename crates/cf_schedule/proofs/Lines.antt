@@ -8,7 +8,8 @@ use Rattle.cf_schedule.specs.Word.{IsClientName, IsChannelName, IsKey, IsNamespa
 use Rattle.cf_machine.specs.Event.{Event, Epoch, Connect, Ask, AskFrom, Read, Finish, Publish, PublishBy, Deliver, Take}
 use Rattle.cf_machine.specs.Event.{Break, Leave, Trim, Forget, BrokerRestart, SetSize, Restart, Check, ListHistory}
 use Rattle.cf_machine.specs.TraceLine.{spaced}
-use Rattle.cf_schedule.specs.ScheduleLine.{Says, IsEpochWord, IsLimit, IsData, largest_size, last_number, most_left}
+use Rattle.cf_schedule.specs.ScheduleLine.{Says, IsEpochWord, IsLimit, IsData, last_number, most_left}
+use Rattle.cf_protocol.specs.Settings.{largest_size}
 use Rattle.cf_schedule.specs.LineRead.{IsUnspaced, IsNone, IsPublication, publish_word, put_word}
 use Rattle.cf_schedule.proofs.Spacing.{one_cut, never_cut, unspaced_word}
 

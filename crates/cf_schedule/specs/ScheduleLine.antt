@@ -6,6 +6,7 @@ use Rattle.cf_json.specs.Grammar.{Tree, depth}
 use Rattle.cf_json.specs.Spans.{Span, Document}
 use Rattle.cf_json.specs.Compact.{compact_text}
 use Rattle.cf_protocol.specs.Epoch.{IsEpoch}
+use Rattle.cf_protocol.specs.Settings.{largest_size}
 use Rattle.cf_schedule.specs.Word.{IsClientName, IsChannelName, IsKey, IsNamespaceName}
 use Rattle.cf_machine.specs.Event.{Event, Epoch, Connect, Ask, AskFrom, Read, Finish, Publish, PublishBy, Deliver}
 use Rattle.cf_machine.specs.Event.{Take, Break, Leave, Trim, Forget, BrokerRestart, SetSize, Restart, Check}
@@ -23,16 +24,12 @@ spaced (w ∷ v ∷ ws) = w ++ 32 ∷ spaced (v ∷ ws)
 abbrev pub IsEpochWord : List ℕ → Type 0
 IsEpochWord e = (e ≢ []) × IsEpoch e
 
--- the greatest number of a publication, and the most publications that a trim leaves
+-- the greatest number of a publication, and the most publications that a trim leaves: as many as a stream may hold
 abbrev pub last_number : ℕ
 last_number = 2 ^ 64 - 1
 
 abbrev pub most_left : ℕ
-most_left = 10000
-
--- the largest history size of a namespace
-abbrev pub largest_size : ℕ
-largest_size = 10000
+most_left = largest_size
 
 -- A limit is a whole number of 32 bits, perhaps with a minus sign. A number is written without leading zeros.
 abbrev pub IsLimit : List ℕ → ℤ → Type 0

@@ -13,12 +13,12 @@ use crate::body::Body;
 use crate::name::{ChannelName, ClientName, Key, NamespaceName};
 use crate::number::{HistorySize, whole_number};
 use cf_json::one_value;
-use cf_protocol::Epoch;
+use cf_protocol::{Epoch, LARGEST_SIZE};
 use std::alloc::{AllocError, Global};
 use thiserror::Error;
 
 /// The most publications that a trim leaves.
-const MOST_LEFT: u64 = 10_000;
+const MOST_LEFT: u64 = LARGEST_SIZE;
 
 /// The least number above all limits of a history.
 const END_OF_LIMITS: u64 = 2_147_483_648;

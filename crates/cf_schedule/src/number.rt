@@ -4,12 +4,10 @@ ghost use Rattle.std.specs.Fmt.{decimal};
 ghost use Rattle.std.specs.Char.{is_ascii_digit};
 ghost use Rattle.std.specs.List.{list_all};
 ghost use Rattle.cf_schedule.specs.LineRead.{IsNoNumber};
-ghost use Rattle.cf_schedule.specs.ScheduleLine.{largest_size};
+ghost use Rattle.cf_protocol.specs.Settings.{largest_size};
 
+use cf_protocol::LARGEST_SIZE;
 use std::marker::Model;
-
-/// The largest history size of a namespace.
-const LARGEST_SIZE: u64 = 10_000;
 
 /// A namespace's history size: 1 to 10,000 publications.
 #[derive(Clone, Copy)]
@@ -19,7 +17,7 @@ pub struct HistorySize {
 
 impl Model for HistorySize {
     ghost use Rattle.std.specs.Prelude.{ℕ, ◌≤◌};
-    ghost use Rattle.cf_schedule.specs.ScheduleLine.{largest_size};
+    ghost use Rattle.cf_protocol.specs.Settings.{largest_size};
 
     ghost Value = { ℕ };
 

@@ -4,13 +4,7 @@ ghost use Rattle.cf_protocol.specs.Request as request;
 ghost use Rattle.cf_protocol.specs.Shown.{shown_request, shown_data};
 ghost use Rattle.cf_protocol.specs.Checks.{checks, first_failed, is_bad_channel, is_bad_data};
 
-use cf_protocol::{Data, ErrorCode, Namespaces, Request};
-
-/// The longest name of a channel, in bytes.
-const LONGEST_CHANNEL: usize = 255;
-
-/// The longest key of a publish, in bytes.
-const LONGEST_KEY: usize = 64;
+use cf_protocol::{Data, ErrorCode, LONGEST_CHANNEL, LONGEST_KEY, Namespaces, Request};
 
 fn is_bad_channel(channel: &str) -> bool
     ensures { result ≡ is_bad_channel channel.now }

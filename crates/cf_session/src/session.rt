@@ -21,15 +21,12 @@ use crate::refusal::refusal_of;
 use crate::replied::{after_answer, is_connected};
 use crate::stage::ScriptStage;
 use cf_protocol::{
-    CloseCode, Command, Data, ErrorCode, Info, Namespaces, Outcome, Outgoing, Position, ReadFault,
-    Request, Tokens, read_commands, write_reply,
+    CloseCode, Command, Data, ErrorCode, Info, LONGEST_TEXT, Namespaces, Outcome, Outgoing,
+    Position, ReadFault, Request, Tokens, read_commands, write_reply,
 };
 use std::alloc::{AllocError, Global};
 use std::collections::VecDeque;
 use std::mem;
-
-/// The longest text of a frame, in bytes.
-const LONGEST_TEXT: usize = 65_536;
 
 /// One session of a client: it reads the client's texts, and says what is to be done for them, one action after another.
 pub struct Session<'a> {

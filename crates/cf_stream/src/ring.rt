@@ -2,6 +2,7 @@
 ghost use Rattle.std.specs.Prelude.{◌≡◌, ◌+◌, ◌-◌, ◌≤◌, ◌==◌, [], ◌∷◌, ◌++◌, length, min, take, drop, slice_get, option_copied, IfOk, OnOk};
 ghost use Rattle.circular_buffer.specs.Buffer.{buffer};
 ghost use Rattle.cf_model.specs.Keys.{newest};
+ghost use Rattle.cf_protocol.specs.Settings.{largest_size};
 
 use cf_protocol::Publication;
 use circular_buffer::HeapCircularBuffer;
@@ -67,7 +68,7 @@ impl<T: Drop> Ring<T> {
 
     /// Makes room for one item more if `size` allows it. The block grows only if it has to, to about twice what is held.
     pub(crate) fn make_room(&mut self, alloc: Global, size: usize) -> Result<(), AllocError>
-        requires { (1 ≤ size) × (size ≤ 10000) × (length self.old.items ≤ size) }
+        requires { (1 ≤ size) × (size ≤ largest_size) × (length self.old.items ≤ size) }
         ensures items { self.new.items ≡ self.old.items }
         ensures room { OnOk result (min size (length self.old.items + 1) ≤ self.new.capacity) }
     {
@@ -117,7 +118,7 @@ impl<T: Drop> Ring<T> {
 
 /// Makes room for one item more in a block, if `size` allows it.
 fn grow<T: Drop>(block: &mut HeapCircularBuffer<T>, size: usize) -> Result<(), AllocError>
-    requires { (1 ≤ size) × (size ≤ 10000) × (length block.old.items ≤ size) }
+    requires { (1 ≤ size) × (size ≤ largest_size) × (length block.old.items ≤ size) }
     ensures items { block.new.items ≡ block.old.items }
     ensures room { OnOk result (min size (length block.old.items + 1) ≤ block.new.capacity) }
 {

@@ -22,7 +22,7 @@ use std::marker::Model;
 pub const LAST_OFFSET: u64 = 9007199254740991;
 
 /// The most publications that a stream may hold.
-pub const LARGEST_SIZE: usize = 10000;
+pub const LARGEST_SIZE: usize = cf_protocol::LARGEST_SIZE as usize;
 
 /// How long an unused stream stands, in seconds.
 pub const UNUSED_SECONDS: u64 = 2592000;

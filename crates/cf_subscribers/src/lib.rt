@@ -8,5 +8,6 @@ mod names;
 mod subscribers;
 mod walk;
 
-pub use subscribers::{MOST_ROWS, Subscribers};
+pub use cf_subs::MOST_ROWS;
+pub use subscribers::Subscribers;
 pub use walk::FollowerWalk;

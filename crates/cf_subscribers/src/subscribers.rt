@@ -6,12 +6,9 @@ ghost use Rattle.cf_model.specs.Streams.{most_rows};
 use crate::named_rows::{add_first_row, remove_row};
 use crate::names::Names;
 use crate::walk::FollowerWalk;
-use cf_subs::{SubTable, SubTableError};
+use cf_subs::{MOST_ROWS, SubTable, SubTableError};
 use std::alloc::Global;
 use std::marker::Model;
-
-/// How many rows a node has at most.
-pub const MOST_ROWS: usize = 65_536;
 
 /// The rows of one node, in order of adding: each at most once, and at most 65,536.
 ///
