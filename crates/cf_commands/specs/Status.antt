@@ -3,9 +3,9 @@ use Rattle.std.specs.Prelude.{◌≡◌, ◌⊎◌, ℕ}
 use Rattle.cf_protocol.specs.declared.fault.ReadFault.{ReadFault}
 use Rattle.cf_protocol.specs.declared.fault.ReadFault.TheVariants as read
 use Rattle.cf_simulate.specs.Status.{status_of as simulation_status}
-use Rattle.cf_commands.specs.declared.fault.CommandError.{CommandError}
-use Rattle.cf_commands.specs.declared.fault.CommandError.TheVariants as fault
-use Rattle.cf_commands.specs.declared.fault.Setting.{Setting}
+use Rattle.cf_commands.specs.declared.error.CommandError.{CommandError}
+use Rattle.cf_commands.specs.declared.error.CommandError.TheVariants as fault
+use Rattle.cf_commands.specs.declared.error.Setting.{Setting}
 
 -- 2: the words or the input can't be used; 3: no memory was left; 4: a read or a write failed, or a node can't serve
 abbrev pub status_of : CommandError → ℕ

@@ -1,6 +1,6 @@
 //! The program's words.
 
-use crate::fault::CommandError;
+use crate::error::CommandError;
 use crate::serving::MOST_ON_LINK;
 use clap::builder::ValueParser;
 use clap::error::ErrorKind;

@@ -1,6 +1,6 @@
 //! The settings that have entries: what was read of them, or which entry can't be used, and by which rule.
 
-use crate::fault::{CommandError, Setting};
+use crate::error::{CommandError, Setting};
 use cf_protocol::{Namespaces, ReadFault, Tokens, read_namespaces, read_tokens};
 use std::alloc::{AllocError, Global};
 use std::collections::BTreeSet;

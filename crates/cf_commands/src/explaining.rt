@@ -3,7 +3,7 @@ ghost use Rattle.std.specs.Prelude.{true, IfSome, OnOk};
 ghost use Rattle.cf_schedule.specs.Seen.{shown_config};
 ghost use Rattle.cf_simulate.specs.Simulation.{Prints};
 
-use crate::fault::CommandError;
+use crate::error::CommandError;
 use cf_explain::line_fault;
 use cf_schedule::Config;
 use cf_simulate::{SimulateError, simulate};

@@ -4,8 +4,8 @@
 
 mod command_line;
 mod entries;
+mod error;
 mod explaining;
-mod fault;
 mod program;
 mod readiness;
 mod report;
@@ -19,8 +19,8 @@ mod stand_ins;
 pub use cf_explain::LineError;
 pub use cf_simulate::simulate;
 pub use command_line::{Options, ServeOptions, SpeakOptions};
+pub use error::{CommandError, Setting};
 pub use explaining::explain;
-pub use fault::{CommandError, Setting};
 pub use program::run;
 pub use serving::serve;
 pub use settings::config_of;

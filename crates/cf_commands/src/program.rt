@@ -1,8 +1,8 @@
 //! A run of the program: its words, and the command that they ask for.
 
 use crate::command_line::{self, Job, Options, SpeakOptions, VERSION};
+use crate::error::CommandError;
 use crate::explaining::explain;
-use crate::fault::CommandError;
 use crate::serving::serve;
 use crate::settings::config_of;
 use crate::speaking::{setup_of, speak};

@@ -3,7 +3,7 @@ ghost use Rattle.std.specs.Prelude.{◌≡◌, true, IfOk, IfErr};
 ghost use Rattle.std.specs.Io.KnownBytes.{IsAtEnd};
 ghost use Rattle.cf_commands.specs.Status.{IsOutside};
 
-use crate::fault::CommandError;
+use crate::error::CommandError;
 use crate::readiness::Readiness;
 use crate::sizes::{InputLine, Listener};
 use cf_node::{ErrorCounts, Gate, Reach};

@@ -5,7 +5,7 @@ ghost use denote.Param.Send.{IsSend, IsSync};
 
 use crate::command_line::ServeOptions;
 use crate::entries::{namespaces_of, tokens_of};
-use crate::fault::{CommandError, Setting};
+use crate::error::{CommandError, Setting};
 use crate::report::{Reporter, Teller};
 use crate::running::{Ear, Running, wait_for_workers};
 use crate::sizes::{Listener, Sizes};

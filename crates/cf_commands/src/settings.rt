@@ -2,7 +2,7 @@
 
 use crate::command_line::Options;
 use crate::entries::namespaces_of;
-use crate::fault::{CommandError, Setting};
+use crate::error::{CommandError, Setting};
 use cf_protocol::ReadFault;
 use cf_schedule::Config;
 use std::alloc::Global;

@@ -4,7 +4,7 @@ ghost use Rattle.cf_speak.specs.Conversation.{BreaksOff, Speaks};
 
 use crate::command_line::SpeakOptions;
 use crate::entries::{namespaces_of, tokens_of};
-use crate::fault::{CommandError, Setting};
+use crate::error::{CommandError, Setting};
 use crate::settings::usable;
 use cf_speak::{GivenEpochs, SpeakError, SpeakSetup, converse};
 use std::alloc::Global;

@@ -1,5 +1,5 @@
 //! What stands in the place of standard streams that were closed when the program was started.
-use crate::fault::CommandError;
+use crate::error::CommandError;
 use std::fs;
 use std::fs::OpenOptions;
 use std::rt::Files;

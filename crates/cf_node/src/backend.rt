@@ -7,7 +7,7 @@ ghost use Rattle.cf_node_hub.specs.Asking.{Answers};
 ghost use Rattle.cf_node_hub.specs.Histories.{IsListedIn};
 ghost use Rattle.cf_node.specs.Answered.{StoodAt, WasPublished};
 
-use crate::fault_counts::NodeError;
+use crate::error_counts::NodeError;
 use crate::shared::Shared;
 use cf_node_hub::{Begun, NodeHub};
 use cf_order::Pass;

@@ -6,7 +6,7 @@ ghost use Rattle.cf_node_hub.specs.Histories.{IsListedIn};
 use crate::attached_client::AttachedClient;
 use crate::backend::Backend;
 use crate::costs::{CALL, LOOP_BUDGET, TEXT, cost_of, may_publish};
-use crate::fault_counts::NodeError;
+use crate::error_counts::NodeError;
 use cf_dispatch::{Group, Outbox, broker_error, take_for};
 use cf_hub::Queued;
 use cf_node_hub::history_reply;

@@ -6,7 +6,7 @@ use crate::backend::Backend;
 use crate::connection::{Connection, Head, HeadStage, Open, Turned, takes_more};
 use crate::costs::{CALL, LOOP_BUDGET};
 use crate::desk::SessionDesk;
-use crate::fault_counts::NodeError;
+use crate::error_counts::NodeError;
 use crate::gate::{Gate, IO_LOOP};
 use crate::leaving::Leaving;
 use crate::socket::Socket;

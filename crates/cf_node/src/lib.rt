@@ -14,7 +14,7 @@ mod connection;
 mod costs;
 mod desk;
 mod dispatcher;
-mod fault_counts;
+mod error_counts;
 mod gate;
 mod io_loop;
 mod leaving;
@@ -26,6 +26,6 @@ mod socket;
 mod window;
 
 pub use costs::Reach;
-pub use fault_counts::ErrorCounts;
+pub use error_counts::ErrorCounts;
 pub use gate::{DISPATCHER, Gate, IO_LOOP};
 pub use node::{Node, Setup};

@@ -5,7 +5,7 @@ ghost use Rattle.cf_shard.specs.Shards.{number_of};
 ghost use Rattle.cf_node.specs.Answered.{StoodAt};
 
 use crate::backend::Backend;
-use crate::fault_counts::NodeError;
+use crate::error_counts::NodeError;
 use crate::node::Setup;
 use crate::shared::Shared;
 use crate::window::Window;

@@ -5,7 +5,7 @@ ghost use denote.Param.Send.{IsSend, IsSync};
 use crate::acceptor::Acceptor;
 use crate::costs::Reach;
 use crate::dispatcher::{NodeMailbox, dispatch};
-use crate::fault_counts::ErrorCounts;
+use crate::error_counts::ErrorCounts;
 use crate::gate::Gate;
 use crate::io_loop::serve;
 use crate::live_backend::LiveBackend;

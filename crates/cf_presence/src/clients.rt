@@ -9,9 +9,9 @@ ghost use Rattle.cf_presence.specs.Maps.{SetsAt, Puts};
 ghost use Rattle.cf_presence.specs.Presence.{stays, still, users_of, user_count, IsThere};
 ghost use Rattle.cf_presence.specs.UserCounts.{clients_with};
 
+use crate::error::PresenceError;
 use crate::maps::put;
 use crate::presence::Stats;
-use crate::refusal::PresenceError;
 use crate::users::{add_user, drop_gone, drop_user};
 use std::alloc::Global;
 use std::collections::BTreeMap;

@@ -4,11 +4,11 @@
 #![tactic(auto)]
 
 mod clients;
+mod error;
 mod maps;
 mod presence;
-mod refusal;
 mod users;
 
 pub use clients::ENTRY_SECONDS;
+pub use error::PresenceError;
 pub use presence::{Presence, Stats};
-pub use refusal::PresenceError;

@@ -2,7 +2,7 @@
 ghost use Rattle.std.specs.Prelude.{◌≡◌, IfOk, OnOk, OnErr, Some};
 ghost use Rattle.cf_presence.specs.Maps.{SetsAt, Puts};
 
-use crate::refusal::PresenceError;
+use crate::error::PresenceError;
 use std::alloc::{AllocFailed, Global};
 use std::collections::BTreeMap;
 

@@ -7,8 +7,8 @@ ghost use Rattle.cf_presence.specs.Presence.{IsThere, clients_of, entered, left,
 ghost use Rattle.cf_presence.specs.Maps.{SetsAt, if_any};
 
 use crate::clients::ChannelClients;
+use crate::error::PresenceError;
 use crate::maps::put;
-use crate::refusal::PresenceError;
 use std::alloc::Global;
 use std::collections::BTreeMap;
 use std::marker::Model;

@@ -7,8 +7,8 @@ ghost use Rattle.cf_presence.specs.Presence.{stays};
 ghost use Rattle.cf_presence.specs.UserCounts.{CountsUsers, Tallies, clients_with, counted};
 
 use crate::clients::PresenceEntry;
+use crate::error::PresenceError;
 use crate::maps::put;
-use crate::refusal::PresenceError;
 use std::alloc::Global;
 use std::collections::BTreeMap;
 

@@ -4,8 +4,8 @@ use Rattle.cf_hub.specs.declared.refusal.HubRefusal.{HubRefusal}
 use Rattle.cf_hub.specs.declared.refusal.HubRefusal.TheVariants as hub
 use Rattle.cf_stream.specs.declared.refusal.StreamRefusal.{StreamRefusal}
 use Rattle.cf_stream.specs.declared.refusal.StreamRefusal.TheVariants as stream
-use Rattle.cf_presence.specs.declared.refusal.PresenceError.{PresenceError}
-use Rattle.cf_presence.specs.declared.refusal.PresenceError.TheVariants as presence
+use Rattle.cf_presence.specs.declared.error.PresenceError.{PresenceError}
+use Rattle.cf_presence.specs.declared.error.PresenceError.TheVariants as presence
 
 abbrev pub of_hub : HubRefusal → Refusal
 of_hub hub.NoSession = NoSession

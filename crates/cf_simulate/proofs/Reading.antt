@@ -22,9 +22,9 @@ use Rattle.cf_machine.specs.FreshEpochs.{AreDistinct}
 use Rattle.cf_schedule.specs.declared.event.Event as declared
 use Rattle.cf_simulate.specs.ScheduleText.{lines_of, Gives, events_of, epochs_by, epochs_of}
 use Rattle.cf_simulate.specs.ScheduleRead.{HasLines, IsLineOf, IsReadTo, NotesEpoch, RefusesLine, RefusesText, Epochs}
-use Rattle.cf_simulate.specs.declared.fault.SimulateError.{SimulateError}
-use Rattle.cf_simulate.specs.declared.fault.SimulateError.TheVariants.{Unreadable, UsedTwice, NotUtf8, Memory}
-use Rattle.cf_simulate.specs.declared.fault.SimulateError.TheVariants.{InputOutput}
+use Rattle.cf_simulate.specs.declared.error.SimulateError.{SimulateError}
+use Rattle.cf_simulate.specs.declared.error.SimulateError.TheVariants.{Unreadable, UsedTwice, NotUtf8, Memory}
+use Rattle.cf_simulate.specs.declared.error.SimulateError.TheVariants.{InputOutput}
 use Rattle.cf_simulate.specs.declared.schedule.Line.{Line}
 use Rattle.cf_simulate.specs.declared.schedule.Schedule.{Schedule}
 

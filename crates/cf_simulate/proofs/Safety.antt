@@ -15,9 +15,9 @@ use Rattle.cf_simulate.specs.ScheduleText.{IsSchedule}
 use Rattle.cf_simulate.specs.Simulation.{AreExplained, AreShown, Ends, EndsRun, IsOutside, Prints, Stops}
 use Rattle.cf_simulate.specs.WrittenTrace.{AreLinesOf, AreRemarked, ShowsTrace, WritesFront, WritesFrontAtMost}
 use Rattle.cf_simulate.specs.WrittenTrace.{WritesTrace}
-use Rattle.cf_simulate.specs.declared.fault.SimulateError.{SimulateError}
-use Rattle.cf_simulate.specs.declared.fault.SimulateError.TheVariants.{Unreadable, UsedTwice, NotUtf8, Memory}
-use Rattle.cf_simulate.specs.declared.fault.SimulateError.TheVariants.{InputOutput}
+use Rattle.cf_simulate.specs.declared.error.SimulateError.{SimulateError}
+use Rattle.cf_simulate.specs.declared.error.SimulateError.TheVariants.{Unreadable, UsedTwice, NotUtf8, Memory}
+use Rattle.cf_simulate.specs.declared.error.SimulateError.TheVariants.{InputOutput}
 use Rattle.cf_simulate.proofs.Writing.{Bytes, all_part, keeps_same}
 
 abbrev pub SafeLaw : Type 0

@@ -19,8 +19,8 @@ use Rattle.cf_schedule.specs.declared.event.Event as declared
 use Rattle.cf_world.specs.Tie.{Tied, GoesOn}
 use Rattle.cf_simulate.specs.Simulation.{AddsPart, AreExplained, AreShown, EndsRun, HasRemarks, IsShown, PrintsPart}
 use Rattle.cf_simulate.specs.Simulation.{PrintsWhole, ShowsEvent, WritesAll, lines_of_run}
-use Rattle.cf_simulate.specs.declared.fault.SimulateError.{SimulateError}
-use Rattle.cf_simulate.specs.declared.fault.SimulateError.TheVariants.{Memory, InputOutput}
+use Rattle.cf_simulate.specs.declared.error.SimulateError.{SimulateError}
+use Rattle.cf_simulate.specs.declared.error.SimulateError.TheVariants.{Memory, InputOutput}
 use Rattle.cf_simulate.proofs.Writing.{Bytes, none_added, adds_more, adds_kept, further_part, part_kept}
 
 -- ---- one event more

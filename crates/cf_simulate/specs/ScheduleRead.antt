@@ -10,8 +10,8 @@ use Rattle.cf_machine.specs.Event.{Event, Epoch}
 use Rattle.cf_schedule.specs.Seen.{seen}
 use Rattle.cf_schedule.specs.ScheduleLine.{Says}
 use Rattle.cf_simulate.specs.ScheduleText.{events_of, epochs_of, Give, IsUnreadable, IsUnreadableAt, IsRepeatedAt}
-use Rattle.cf_simulate.specs.declared.fault.SimulateError.{SimulateError}
-use Rattle.cf_simulate.specs.declared.fault.SimulateError.TheVariants.{Unreadable, UsedTwice, Memory}
+use Rattle.cf_simulate.specs.declared.error.SimulateError.{SimulateError}
+use Rattle.cf_simulate.specs.declared.error.SimulateError.TheVariants.{Unreadable, UsedTwice, Memory}
 use Rattle.cf_simulate.specs.declared.schedule.Line.{Line}
 use Rattle.cf_simulate.specs.declared.schedule.Schedule.{Schedule}
 

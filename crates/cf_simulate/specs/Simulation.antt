@@ -14,9 +14,9 @@ use Rattle.cf_world.specs.Tie.{Tied}
 use Rattle.cf_explain.specs.Remarks.{AreRemarks, BeginsWith, IsOneLine, heading}
 use Rattle.cf_simulate.specs.ScheduleText.{IsSchedule, IsUnreadableAt, IsRepeatedAt}
 use Rattle.cf_simulate.specs.declared.schedule.Line.{Line}
-use Rattle.cf_simulate.specs.declared.fault.SimulateError.{SimulateError}
-use Rattle.cf_simulate.specs.declared.fault.SimulateError.TheVariants.{Unreadable, UsedTwice, NotUtf8, Memory}
-use Rattle.cf_simulate.specs.declared.fault.SimulateError.TheVariants.{InputOutput}
+use Rattle.cf_simulate.specs.declared.error.SimulateError.{SimulateError}
+use Rattle.cf_simulate.specs.declared.error.SimulateError.TheVariants.{Unreadable, UsedTwice, NotUtf8, Memory}
+use Rattle.cf_simulate.specs.declared.error.SimulateError.TheVariants.{InputOutput}
 
 -- ---- what is written of a run
 

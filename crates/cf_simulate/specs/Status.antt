@@ -1,8 +1,8 @@
 -- How the program ends if a simulation doesn't succeed (this project's own profile).
 use Rattle.std.specs.Prelude.{ℕ}
-use Rattle.cf_simulate.specs.declared.fault.SimulateError.{SimulateError}
-use Rattle.cf_simulate.specs.declared.fault.SimulateError.TheVariants.{Unreadable, UsedTwice, NotUtf8, Memory}
-use Rattle.cf_simulate.specs.declared.fault.SimulateError.TheVariants.{InputOutput}
+use Rattle.cf_simulate.specs.declared.error.SimulateError.{SimulateError}
+use Rattle.cf_simulate.specs.declared.error.SimulateError.TheVariants.{Unreadable, UsedTwice, NotUtf8, Memory}
+use Rattle.cf_simulate.specs.declared.error.SimulateError.TheVariants.{InputOutput}
 
 -- 2: the input can't be used; 3: no memory was left; 4: a read or a write failed
 abbrev pub status_of : SimulateError → ℕ

@@ -1,10 +1,10 @@
 //! Schedules as texts, carried out event by event: what `cf_server simulate` does, without its process.
 #![tactic(auto)]
 
-mod fault;
+mod error;
 mod schedule;
 mod simulation;
 
-pub use fault::SimulateError;
+pub use error::SimulateError;
 pub use schedule::{Line, Schedule};
 pub use simulation::simulate;

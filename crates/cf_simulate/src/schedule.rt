@@ -6,7 +6,7 @@ ghost use Rattle.cf_simulate.specs.ScheduleText.{lines_of, IsSchedule};
 ghost use Rattle.cf_simulate.specs.ScheduleRead.{HasLines, IsReadTo, RefusesLine, RefusesText};
 ghost use Rattle.cf_simulate.specs.ScheduleRead.{NotesEpoch, RefusesEpoch, line_at};
 
-use crate::fault::SimulateError;
+use crate::error::SimulateError;
 use cf_schedule::{Event, EventFault};
 use std::alloc::{AllocError, Global};
 use std::collections::BTreeSet;

@@ -10,7 +10,7 @@ ghost use Rattle.cf_speak.specs.Scene.{is_over, waits};
 ghost use Rattle.cf_speak.specs.Shown.{scene_of};
 
 use crate::epochs::GivenEpochs;
-use crate::fault::SpeakError;
+use crate::error::SpeakError;
 use crate::local_node::LocalNode;
 use cf_protocol::{Namespaces, Tokens, close_reason};
 use cf_queue::Out;

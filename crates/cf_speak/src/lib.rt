@@ -3,10 +3,10 @@
 
 mod conversation;
 mod epochs;
-mod fault;
+mod error;
 mod local_node;
 
 pub use conversation::{SpeakSetup, converse};
 pub use epochs::GivenEpochs;
-pub use fault::SpeakError;
+pub use error::SpeakError;
 pub use local_node::LocalNode;

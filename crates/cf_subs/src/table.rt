@@ -5,8 +5,8 @@ ghost use Rattle.cf_subs.specs.Rows.{WalksLose, after_in, channels_of, follows, 
 ghost use Rattle.cf_subs.specs.Rows.{sessions_of, with_row, without_row, without_session};
 
 use crate::channel_walk::ChannelWalk;
+use crate::error::SubTableError;
 use crate::linked_rows::LinkedRows;
-use crate::refusal::SubTableError;
 use crate::walk::Walk;
 use std::alloc::Global;
 use std::marker::Model;

@@ -1,7 +1,7 @@
 -- The loop keeps that the session waits idle and that what was written answers the lines so far.
 use Rattle.std.proofs.Common.{◌≡◌, ◌∙◌, false, Some, rules, sym, subst, option_map}
 use Rattle.std.specs.Prelude.{IsErrOf}
-use Rattle.cf_speak.specs.declared.fault.SpeakError.TheVariants as fault
+use Rattle.cf_speak.specs.declared.error.SpeakError.TheVariants as fault
 use Rattle.cf_session.specs.Standing.{progress_of, tables_of}
 use Rattle.cf_speak.specs.Conversation.{IsNoText, ReadsLine}
 use Rattle.cf_speak.specs.Scene.{is_over}

@@ -42,7 +42,7 @@ impl SimulateError {
 
 impl From<AllocError> for SimulateError {
     ghost use Rattle.std.specs.Prelude.{◌≡◌};
-    ghost use Rattle.cf_simulate.specs.declared.fault.SimulateError.TheVariants.{Memory};
+    ghost use Rattle.cf_simulate.specs.declared.error.SimulateError.TheVariants.{Memory};
 
     ghost from_gives = { λ _ fault. fault ≡ Memory };
 
@@ -53,7 +53,7 @@ impl From<AllocError> for SimulateError {
 
 impl<T: Drop> From<AllocFailed<T>> for SimulateError {
     ghost use Rattle.std.specs.Prelude.{◌≡◌};
-    ghost use Rattle.cf_simulate.specs.declared.fault.SimulateError.TheVariants.{Memory};
+    ghost use Rattle.cf_simulate.specs.declared.error.SimulateError.TheVariants.{Memory};
 
     ghost from_gives = { λ _ fault. fault ≡ Memory };
 
@@ -64,7 +64,7 @@ impl<T: Drop> From<AllocFailed<T>> for SimulateError {
 
 impl From<Short> for SimulateError {
     ghost use Rattle.std.specs.Prelude.{◌≡◌};
-    ghost use Rattle.cf_simulate.specs.declared.fault.SimulateError.TheVariants.{Memory};
+    ghost use Rattle.cf_simulate.specs.declared.error.SimulateError.TheVariants.{Memory};
 
     ghost from_gives = { λ _ fault. fault ≡ Memory };
 

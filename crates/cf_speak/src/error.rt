@@ -19,7 +19,7 @@ pub enum SpeakError {
 
 impl From<AllocError> for SpeakError {
     ghost use Rattle.std.specs.Prelude.{◌≡◌};
-    ghost use Rattle.cf_speak.specs.declared.fault.SpeakError.TheVariants.{Memory};
+    ghost use Rattle.cf_speak.specs.declared.error.SpeakError.TheVariants.{Memory};
 
     ghost from_gives = { λ _ fault. fault ≡ Memory };
 
@@ -30,7 +30,7 @@ impl From<AllocError> for SpeakError {
 
 impl From<io::Error> for SpeakError {
     ghost use Rattle.std.specs.Prelude.{◌≢◌};
-    ghost use Rattle.cf_speak.specs.declared.fault.SpeakError.TheVariants.{NotUtf8};
+    ghost use Rattle.cf_speak.specs.declared.error.SpeakError.TheVariants.{NotUtf8};
 
     ghost from_gives = { λ _ fault. fault ≢ NotUtf8 };
 

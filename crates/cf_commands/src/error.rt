@@ -114,7 +114,7 @@ impl CommandError {
 
 impl From<AllocError> for CommandError {
     ghost use Rattle.std.specs.Prelude.{◌≡◌};
-    ghost use Rattle.cf_commands.specs.declared.fault.CommandError.TheVariants.{Memory};
+    ghost use Rattle.cf_commands.specs.declared.error.CommandError.TheVariants.{Memory};
 
     ghost from_gives = { λ _ fault. fault ≡ Memory };
 
@@ -125,7 +125,7 @@ impl From<AllocError> for CommandError {
 
 impl<T: Drop> From<AllocFailed<T>> for CommandError {
     ghost use Rattle.std.specs.Prelude.{◌≡◌};
-    ghost use Rattle.cf_commands.specs.declared.fault.CommandError.TheVariants.{Memory};
+    ghost use Rattle.cf_commands.specs.declared.error.CommandError.TheVariants.{Memory};
 
     ghost from_gives = { λ _ fault. fault ≡ Memory };
 
@@ -136,7 +136,7 @@ impl<T: Drop> From<AllocFailed<T>> for CommandError {
 
 impl From<SimulateError> for CommandError {
     ghost use Rattle.std.specs.Prelude.{◌≡◌};
-    ghost use Rattle.cf_commands.specs.declared.fault.CommandError.TheVariants.{Simulation};
+    ghost use Rattle.cf_commands.specs.declared.error.CommandError.TheVariants.{Simulation};
 
     ghost from_gives = { λ fault given. given ≡ Simulation fault };
 

@@ -1,6 +1,6 @@
 //! Why a call on presence is refused.
 ghost use Rattle.std.specs.Prelude.{◌≡◌};
-ghost use Rattle.cf_presence.specs.declared.refusal.PresenceError.TheVariants.{Memory};
+ghost use Rattle.cf_presence.specs.declared.error.PresenceError.TheVariants.{Memory};
 
 use std::alloc::AllocError;
 use thiserror::Error;
