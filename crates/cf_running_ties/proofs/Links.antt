@@ -83,10 +83,10 @@ module _ (c : List ℕ) (p : Position) (d : Datum) where
     position : left.position ≡ p
     offered : IsOffered (carried c p d) count old new
 
-  goes-on : (n : ℕ) (old : Lines) (left : Left) (mid : Lines) (server_after : Left) (new : Lines) → Goes n old left mid
-      → OffersNext n left mid server_after new → Goes (suc n) old server_after new
-  goes-on n old left mid server_after new h o =
-      let cut = All-pop (IsCopy c d) left.copies server_after.copies (Some o.next.copy) o.next.left h.copies in
+  goes-on : (n : ℕ) (old : Lines) (left : Left) (mid : Lines) (after : Left) (new : Lines) → Goes n old left mid
+      → OffersNext n left mid after new → Goes (suc n) old after new
+  goes-on n old left mid after new h o =
+      let cut = All-pop (IsCopy c d) left.copies after.copies (Some o.next.copy) o.next.left h.copies in
       let is : o.delivery ≡ carried c p d =
       o.next.is ∙ ap (λ (q : Position). carried o.next.copy.channel q o.next.copy.publication.datum) h.position
       ∙ (λ i. carried (cut.1.0 i) p (cut.1.1 i)) in record {
