@@ -19,25 +19,24 @@ use Rattle.cf_running.specs.Server.{ran}
 use Rattle.cf_running.specs.Server.{repeats}
 use Rattle.cf_running_ties.specs.Reads.{SaysLater}
 
--- The script goes on with what the worker has in hand; `server_after` is what it does behind the command. What was read
--- is
--- in hand amid a call, before it is answered; so is the reply to a history (`ListsFor`).
-abbrev pub InHand : Lists → Who → (server_after : Script) → Work → Script → Type 0
-InHand lists who server_after Free script = script ≡ server_after
-InHand lists who server_after (Began c id since) script = script ≡ to_read id c since server_after
-InHand lists who server_after (HasRead c r) script = ⊥
-InHand lists who server_after (ToFinish c) script = script ≡ to_finish c server_after
-InHand lists who server_after (ToGiveUp c id code) script =
-    (e : ErrorCode) × (code ≡ code_of e) × (script ≡ Ask (Leave c) (after_lost id e server_after))
-InHand lists who server_after (ToPublish c id key d) script =
-    (d.info ≡ Some who) × (script ≡ Ask (PublishCall c key d.body who) (replies id server_after))
-InHand lists who server_after (ToList c id limit) script =
-    script ≡ Ask (ListCall c id limit None) (replies id server_after)
-InHand lists who server_after (ToSay c n) script =
-    (id : ℕ) × (outcome : Outcome) × SaysLater lists n (Reply id outcome) × (script ≡ Say id outcome server_after)
+-- The script goes on with what the worker has in hand; `after` is what it does behind the command. What was read is in
+-- hand amid a call, before it is answered; so is the reply to a history (`ListsFor`).
+abbrev pub InHand : Lists → Who → (after : Script) → Work → Script → Type 0
+InHand lists who after Free script = script ≡ after
+InHand lists who after (Began c id since) script = script ≡ to_read id c since after
+InHand lists who after (HasRead c r) script = ⊥
+InHand lists who after (ToFinish c) script = script ≡ to_finish c after
+InHand lists who after (ToGiveUp c id code) script =
+    (e : ErrorCode) × (code ≡ code_of e) × (script ≡ Ask (Leave c) (after_lost id e after))
+InHand lists who after (ToPublish c id key d) script =
+    (d.info ≡ Some who) × (script ≡ Ask (PublishCall c key d.body who) (replies id after))
+InHand lists who after (ToList c id limit) script =
+    script ≡ Ask (ListCall c id limit None) (replies id after)
+InHand lists who after (ToSay c n) script =
+    (id : ℕ) × (outcome : Outcome) × SaysLater lists n (Reply id outcome) × (script ≡ Say id outcome after)
 
-abbrev pub HasInHand : Site → Server → ℕ → Who → (server_after : Script) → Script → Type 0
-HasInHand site s k who server_after script = InHand (lists_of site s) who server_after (s.connections k).work script
+abbrev pub HasInHand : Site → Server → ℕ → Who → (after : Script) → Script → Type 0
+HasInHand site s k who after script = InHand (lists_of site s) who after (s.connections k).work script
 
 -- the worker of a connection is free, and this command is the first that came there
 pub record Hears (x : Connection) (c : SentCommand) : Type 0 where
@@ -65,18 +64,18 @@ abbrev pub is_published : Site → Server → (channel key : List ℕ) → Datum
 is_published site s c key d = repeats key (life_of site s c) || can_gain site (site.shard_of c) (PublishEntry c key d) s
 
 -- what the script does for each answer of the broker
-abbrev pub by_answer : (server_after : Script) → Work → Option (Answer → Script)
-by_answer server_after (Began c id since) = Some (after_read id c server_after)
-by_answer server_after (ToPublish c id key d) = Some (replies id server_after)
-by_answer server_after (ToList c id limit) = Some (replies id server_after)
-by_answer server_after other = None
+abbrev pub by_answer : (after : Script) → Work → Option (Answer → Script)
+by_answer after (Began c id since) = Some (after_read id c after)
+by_answer after (ToPublish c id key d) = Some (replies id after)
+by_answer after (ToList c id limit) = Some (replies id after)
+by_answer after other = None
 
 -- A history's stream is listed: the reply that brings this is in hand then, amid the call. It is said, or an error
 -- takes its place; either is the call's answer.
 pub record ListsFor (site : Site) (s : Server) (k : ℕ) (who : Who) (next : Script) (c : List ℕ) (id : ℕ)
     (p : Position) (items : List Placed) : Type 0 where
   pub note : Note
-  pub in_hand : ((server_after site (AsksShard k) s).connections k).work ≡ ToSay c note
+  pub in_hand : ((after site (AsksShard k) s).connections k).work ≡ ToSay c note
   pub says : SaysLater (lists_of site s) note (Reply id (Past p items))
   pub said : HasInHand site (ran site s (AsksShard k ∷ Says k ∷ [])) k who next (replies id next Done)
   pub fails : (e : ErrorCode)
