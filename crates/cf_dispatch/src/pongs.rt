@@ -58,7 +58,7 @@ impl PongWatch {
     /// the ping, and since the last second in which something may have been unread.
     pub fn second_comes(&mut self, now: u64, is_unheard: bool) -> bool
         ensures late { result ≡ is_late now is_unheard self.old.owed }
-        ensures pongs_after { self.new ≡ pongs_after now is_unheard self.old }
+        ensures after { self.new ≡ pongs_after now is_unheard self.old }
     {
         let is_due = now.saturating_sub(self.pinged) >= SECONDS_TO_PING;
         if is_due {

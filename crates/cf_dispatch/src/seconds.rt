@@ -48,7 +48,7 @@ impl Seconds {
     /// second is to be done now: where there is one, and no more sockets may be ready, or it has waited for these for 40 turns.
     pub fn turn_ends(&mut self, now: u64, may_be_more: bool) -> bool
         ensures due { result ≡ is_due self.old now may_be_more }
-        ensures second_after { self.new ≡ second_after self.old now may_be_more }
+        ensures after { self.new ≡ second_after self.old now may_be_more }
     {
         if now == self.done {
             return false;
