@@ -2,7 +2,7 @@
 use Rattle.std.specs.Prelude.{ℕ, Option, Some, slice_set}
 use Rattle.std.specs.Borrow.{LendsIf, MutBor, Fml}
 use Rattle.cf_hub.specs.declared.session.AttachedSession.{AttachedSession}
-use Rattle.cf_hub.specs.contracts.session.Session.{the_row as session_row}
+use Rattle.cf_hub.specs.contracts.session.AttachedSession.{the_row as session_row}
 use Rattle.cf_hub.specs.contracts.session_table.Sessions.{the_row}
 use Rattle.cf_hub.specs.Places.{Places}
 

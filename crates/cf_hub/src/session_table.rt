@@ -17,7 +17,7 @@ impl Model for Sessions {
     ghost use Rattle.std.specs.Prelude.{◌^◌, ◌≤◌, List, Option, length};
     ghost use Rattle.std.specs.Coded.{coded_list, coded_option};
     ghost use Rattle.cf_hub.specs.declared.session.AttachedSession.{AttachedSession};
-    ghost use Rattle.cf_hub.specs.contracts.session.Session as session;
+    ghost use Rattle.cf_hub.specs.contracts.session.AttachedSession as session;
     ghost use Rattle.cf_hub.specs.Places.{unboxed_all};
 
     ghost Value = { List (Option AttachedSession) };
