@@ -1,4 +1,4 @@
--- What `bring_to_all` promises of each session, with the push that was written before, by the lemma `noted`.
+-- What `deliver_to_all` promises of each session, with the push that was written before, by the lemma `noted`.
 use Rattle.std.proofs.Common.{is_some, not}
 use Rattle.cf_hub.specs.Hub.{one_if}
 use Rattle.cf_hub.proofs.Deliveries.{noted}

@@ -1,4 +1,4 @@
--- One session is met (`met_agrees`, `met_seen`): what `say_one` promises of the table is said of the hub.
+-- One session is met (`met_agrees`, `met_seen`): what `enqueue_one` promises of the table is said of the hub.
 use Rattle.std.proofs.Common.{◌∙◌, [], sym, ap, refl}
 use Rattle.cf_queue.specs.OutQueue.{Text}
 use Rattle.cf_hub.specs.Hub.{Node, queued_in, counted, one_if}
