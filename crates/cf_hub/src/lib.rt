@@ -4,21 +4,21 @@
 mod asking;
 mod checked;
 mod delivered;
+mod deliveries;
 mod fate;
 mod hub;
-mod joining;
 pub mod laws;
-mod one_session;
+mod output;
 mod pending;
-mod queries;
 mod queued;
 mod refusal;
 mod reply;
-mod serving;
 mod session;
 mod session_table;
+mod sessions;
 mod step;
 mod subscription;
+mod subscriptions;
 mod upkeep;
 mod wording;
 

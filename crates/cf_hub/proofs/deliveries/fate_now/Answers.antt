@@ -9,7 +9,7 @@ use Rattle.cf_hub.specs.declared.fate.Fate.TheVariants as fate
 use Rattle.cf_hub.specs.declared.session.AttachedSession.{AttachedSession}
 use Rattle.cf_hub.proofs.Ending.{tells_ended}
 use Rattle.cf_hub.proofs.Settling.{has_none}
-use Rattle.cf_hub.proofs.one_session.fate_now.Goals as goal
+use Rattle.cf_hub.proofs.deliveries.fate_now.Goals as goal
 
 un_not : (b : Bool) → false ≡ not b → b ≡ true
 un_not true e = refl

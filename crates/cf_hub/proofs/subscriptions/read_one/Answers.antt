@@ -4,7 +4,7 @@ use Rattle.std.specs.Option.{option_copied_mut}
 use Rattle.cf_hub.specs.Sessions.{takes_read}
 use Rattle.cf_hub.proofs.Placing.{moved_here}
 use Rattle.cf_hub.proofs.Replies.{read_state}
-use Rattle.cf_hub.proofs.one_session.read_one.Goals as goal
+use Rattle.cf_hub.proofs.subscriptions.read_one.Goals as goal
 
 pub returns-in-Some-clause-here : goal.returns-in-Some-clause-here
 returns-in-Some-clause-here c =

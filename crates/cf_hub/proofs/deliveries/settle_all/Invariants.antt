@@ -1,7 +1,7 @@
 use Rattle.cf_subscribers.specs.Follows.{sessions_of}
 use Rattle.cf_hub.specs.Hub.{attached_in}
 use Rattle.cf_hub.proofs.Ending.{IsSettling, from_on}
-use Rattle.cf_hub.proofs.one_session.settle_all.Given as goal
+use Rattle.cf_hub.proofs.deliveries.settle_all.Given as goal
 
 abbrev pub invariant-loop-next : goal.invariant-loop-next
 invariant-loop-next l = IsSettling l.channel (attached_in l.sessions) l.rows l.next

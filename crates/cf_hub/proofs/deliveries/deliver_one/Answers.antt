@@ -6,7 +6,7 @@ use Rattle.std.specs.Option.{option_copied_mut}
 use Rattle.cf_hub.specs.Hub.{Brings}
 use Rattle.cf_hub.specs.Wordings.{at_offset}
 use Rattle.cf_hub.proofs.Placing.{fate_here, fate_none, met_here, met_none, others_here}
-use Rattle.cf_hub.proofs.one_session.deliver_one.Goals as goal
+use Rattle.cf_hub.proofs.deliveries.deliver_one.Goals as goal
 
 pub returns-in-None-clause-here : goal.returns-in-None-clause-here
 returns-in-None-clause-here c =

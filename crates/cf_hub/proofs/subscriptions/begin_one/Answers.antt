@@ -14,7 +14,7 @@ use Rattle.cf_hub.specs.declared.subscription.Progress.TheVariants as code
 use Rattle.cf_model.specs.Sessions.{begins, is_off}
 use Rattle.cf_hub.proofs.Placing.{moved_here, stands}
 use Rattle.cf_hub.proofs.Puts.{put_begun}
-use Rattle.cf_hub.proofs.one_session.begin_one.Goals as goal
+use Rattle.cf_hub.proofs.subscriptions.begin_one.Goals as goal
 
 is_none : (o : Option Progress) → is_off (sub_of o) ≡ true → o ≡ None
 is_none None e = refl

@@ -8,7 +8,7 @@ use Rattle.cf_hub.specs.Sessions.{says_one}
 use Rattle.cf_hub.specs.WantOfMemory.{OrCloses}
 use Rattle.cf_hub.specs.Wordings.{plain}
 use Rattle.cf_hub.proofs.Placing.{ends_here, ends_none, met_here, met_none, others_here}
-use Rattle.cf_hub.proofs.one_session.enqueue_one.Goals as goal
+use Rattle.cf_hub.proofs.output.enqueue_one.Goals as goal
 
 pub returns-in-None-clause-here : goal.returns-in-None-clause-here
 returns-in-None-clause-here c =

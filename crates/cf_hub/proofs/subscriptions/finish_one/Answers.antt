@@ -9,7 +9,7 @@ use Rattle.cf_hub.specs.Rows.{sub_in}
 use Rattle.cf_hub.specs.Session.{attached_of, state_of}
 use Rattle.cf_hub.specs.declared.session.AttachedSession.{AttachedSession}
 use Rattle.cf_hub.proofs.Placing.{ends_here, ends_none, met_here, met_none, others_here}
-use Rattle.cf_hub.proofs.one_session.finish_one.Goals as goal
+use Rattle.cf_hub.proofs.subscriptions.finish_one.Goals as goal
 
 pub returns-in-None-clause-here : goal.returns-in-None-clause-here
 returns-in-None-clause-here c =

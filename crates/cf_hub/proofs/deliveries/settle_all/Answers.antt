@@ -3,7 +3,7 @@ use Rattle.std.proofs.Common.{◌≡◌, ◌<◌, ℕ, Option, Some, None, subst
 use Rattle.cf_subscribers.specs.Follows.{after_in, sessions_of}
 use Rattle.cf_hub.specs.Hub.{attached_in}
 use Rattle.cf_hub.proofs.Ending.{IsSettling, begins_settling, comes_nearer, ends_settling, from_on, settles}
-use Rattle.cf_hub.proofs.one_session.settle_all.Goals as goal
+use Rattle.cf_hub.proofs.deliveries.settle_all.Goals as goal
 
 pub loop-next-init : goal.loop-next-init
 loop-next-init c =
