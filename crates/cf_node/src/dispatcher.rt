@@ -102,7 +102,7 @@ impl<'a, R: Wait + Clock, G: Gate, N: Naming, W: ShardWords<N>> Mailbox
             .receive_within(self.rt, Duration::from_millis(LONGEST_SLEEP))
     }
 
-    fn deliver_from(&mut self, delivery: Delivery<N>) -> Delivered {
+    fn deliver_next(&mut self, delivery: Delivery<N>) -> Delivered {
         let mut hub = match self.hub.take() {
             Some(hub) => hub,
             None => {
