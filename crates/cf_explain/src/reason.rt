@@ -94,10 +94,10 @@ fn no_read(
     name: &str,
     channel: &str,
 ) -> Result<String, AllocError> {
-    if hub.asked(session, channel).is_some() {
+    if hub.unread_subscription(session, channel).is_some() {
         return format!(in alloc; "no epoch waits, so {channel} can have no stream");
     }
-    if hub.has(session, channel) {
+    if hub.has_subscription(session, channel) {
         return format!(in alloc; "{channel} was read for {name}");
     }
     format!(in alloc; "{name} hasn't asked for {channel}")
@@ -110,10 +110,10 @@ fn no_finish(
     name: &str,
     channel: &str,
 ) -> Result<String, AllocError> {
-    if hub.asked(session, channel).is_some() {
+    if hub.unread_subscription(session, channel).is_some() {
         return format!(in alloc; "{channel} isn't read for {name}");
     }
-    if hub.is_on(session, channel) {
+    if hub.is_subscribed(session, channel) {
         return format!(in alloc; "{name} has {channel}");
     }
     format!(in alloc; "{name} hasn't asked for {channel}")
@@ -127,7 +127,7 @@ fn no_check(
     name: &str,
     channel: &str,
 ) -> Result<String, AllocError> {
-    let Some(Position { offset, .. }) = hub.place(session, channel) else {
+    let Some(Position { offset, .. }) = hub.position_of(session, channel) else {
         return format!(in alloc; "{name}'s subscription to {channel} isn't finished");
     };
     match world.streams().position(channel) {

@@ -86,7 +86,7 @@ impl Hub {
         if self.is_closed(session) {
             return Err(HubRefusal::NoSession);
         }
-        if self.has(session, channel) {
+        if self.has_subscription(session, channel) {
             return Err(HubRefusal::Already);
         }
         if self.rows.count(session) >= MOST_CHANNELS || self.rows.len() >= MOST_ROWS {
@@ -181,7 +181,7 @@ impl Hub {
     }
 
     /// Whether a session follows a channel, or is asking for it. It takes no memory.
-    pub fn has(&self, session: u32, channel: &str) -> bool
+    pub fn has_subscription(&self, session: u32, channel: &str) -> bool
         ensures { result ≡ not (is_off (sub_at self.now session channel.now)) }
     {
         match self.session(session) {
@@ -191,14 +191,14 @@ impl Hub {
     }
 
     /// Whether a session's subscription to a channel is finished. It takes no memory.
-    pub fn is_on(&self, session: u32, channel: &str) -> bool
+    pub fn is_subscribed(&self, session: u32, channel: &str) -> bool
         ensures { result ≡ is_some (stand_of (sub_at self.now session channel.now)) }
     {
-        self.place(session, channel).is_some()
+        self.position_of(session, channel).is_some()
     }
 
     /// The subscription of a session to a channel, while the stream was not read for it. It takes no memory.
-    pub fn asked(&self, session: u32, channel: &str) -> Option<UnreadSubscription>
+    pub fn unread_subscription(&self, session: u32, channel: &str) -> Option<UnreadSubscription>
         ensures { result ≡ asked_of (sub_at self.now session channel.now) }
     {
         match self.progress(session, channel) {
@@ -208,7 +208,7 @@ impl Hub {
     }
 
     /// Where a session's finished subscription to a channel stands. It takes no memory.
-    pub fn place(&self, session: u32, channel: &str) -> Option<Position>
+    pub fn position_of(&self, session: u32, channel: &str) -> Option<Position>
         ensures { result ≡ place_of (sub_at self.now session channel.now) }
     {
         match self.progress(session, channel) {

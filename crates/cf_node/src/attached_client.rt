@@ -158,13 +158,13 @@ impl<N: Naming> AttachedClient<N> {
             return false;
         };
         hub.finish(number, channel);
-        hub.is_on(number, channel)
+        hub.is_subscribed(number, channel)
     }
 
     /// Forgets the mark of each subscription that has ended meanwhile.
     pub(crate) fn forgets_ended(&mut self, hub: &NodeHub<N>, number: u32) {
         for present in self.channels.iter_mut() {
-            if !hub.is_on(number, present.channel.as_str()) {
+            if !hub.is_subscribed(number, present.channel.as_str()) {
                 present.mark = None;
             }
         }

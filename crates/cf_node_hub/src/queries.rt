@@ -23,9 +23,9 @@ impl<N: Naming> NodeHub<N> {
     }
 
     /// Whether a session's subscription to a channel is finished. It takes no memory.
-    pub fn is_on(&self, session: u32, channel: &str) -> bool
+    pub fn is_subscribed(&self, session: u32, channel: &str) -> bool
         ensures { result ≡ is_some (stand_of (sub_at self.now.node session channel.now)) }
     {
-        self.hub.is_on(session, channel)
+        self.hub.is_subscribed(session, channel)
     }
 }

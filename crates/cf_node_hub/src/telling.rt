@@ -30,7 +30,7 @@ use cf_stream::Recovery;
 fn asks_from(hub: &Hub, session: u32, channel: &str, since: Option<Position>) -> bool
     ensures { IsTrue result ↔ IsAskedFrom since (sub_at hub.now session channel.now) }
 {
-    hub.asked(session, channel) == Some(UnreadSubscription { since })
+    hub.unread_subscription(session, channel) == Some(UnreadSubscription { since })
 }
 
 impl<N: Naming> NodeHub<N> {

@@ -268,7 +268,7 @@ impl CommandExecutor for LocalNode {
             return;
         };
         self.hub.finish(number, channel.as_str());
-        if !self.hub.is_on(number, channel.as_str()) {
+        if !self.hub.is_subscribed(number, channel.as_str()) {
             return;
         }
         self.is_short |= enter(&self.hub, &mut self.presence, number, channel.as_str()).is_err();

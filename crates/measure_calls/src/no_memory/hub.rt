@@ -58,19 +58,25 @@ fn look_calls(report: &Report<'_>, hub: &Hub, ann: u32) {
 }
 
 fn channel_calls(report: &Report<'_>, hub: &Hub, ann: u32) {
-    let is_asked = hub.asked(ann, "chat").is_some();
+    let is_asked = hub.unread_subscription(ann, "chat").is_some();
     let is_settled = hub.is_settled(ann);
-    report.made("Hub::asked and is_settled", is_asked && !is_settled);
-    let is_on = hub.is_on(ann, "news");
-    let has = hub.has(ann, "chat");
-    let stands = hub.place(ann, "news").is_some();
-    report.made("Hub::is_on, has and place", is_on && has && stands);
+    report.made(
+        "Hub::unread_subscription and is_settled",
+        is_asked && !is_settled,
+    );
+    let is_on = hub.is_subscribed(ann, "news");
+    let has = hub.has_subscription(ann, "chat");
+    let stands = hub.position_of(ann, "news").is_some();
+    report.made(
+        "Hub::is_subscribed, has_subscription and position_of",
+        is_on && has && stands,
+    );
 }
 
 fn output_calls(report: &Report<'_>, hub: &mut Hub, ann: u32) {
-    let waiting = hub.waiting(ann);
+    let waiting = hub.queued_bytes(ann);
     let has_front = hub.front(ann).is_some();
-    report.made("Hub::waiting and front", waiting == 2 && has_front);
+    report.made("Hub::queued_bytes and front", waiting == 2 && has_front);
     let next = hub.next_with_output();
     let is_taken = hub.take(ann).is_some();
     report.made(

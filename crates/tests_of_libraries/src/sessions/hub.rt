@@ -116,7 +116,7 @@ fn tell_called(told: &mut Told, hub: &mut Hub, alloc: Global, step: Step<'_>) {
         "read" => told.is_so(hub.read_done(step.number, step.name, nothing_read(alloc))),
         "finish" => told.is_so(hub.finish(step.number, step.name)),
         "leave" => told.is_so(hub.leave(step.number, step.name)),
-        "on" => told.is_so(hub.is_on(step.number, step.name)),
+        "on" => told.is_so(hub.is_subscribed(step.number, step.name)),
         "check" => {
             let top = Some(place(u64::from(step.size)));
             told.tell(format_args!("{:?}", hub.check(step.number, step.name, top)));
