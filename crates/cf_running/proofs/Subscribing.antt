@@ -71,14 +71,14 @@ record IsToldAt (site : Site) (s : Server) (xs : List Section) (i : ℕ) (t : To
 where_told : (site : Site) (xs : List Section) (s : Server) (i : ℕ) (t : Told) → slice_get (told site s xs) i ≡ Some t
     → IsToldAt site s xs i t
 where_told site [] s i t e = absurd (cc)
-where_told site (x ∷ xs) s i t e = elim (get-append (tells site x s) (told site (server.after site x s) xs) i t e) [
+where_told site (x ∷ xs) s i t e = elim (get-append (tells site x s) (told site (server.server_after site x s) xs) i t e) [
   | inl h ↦ record { n = 0; section = x; is = refl; j = i; tells_it = h; number = omega arith }
   | inr h ↦
-      let w = where_told site xs (server.after site x s) h.0 t h.2 in
-      let more : length (tells site x s ++ told site (server.after site x s) (take w.n xs)) ≡ length (tells site x s)
-      + length (told site (server.after site x s) (take w.n xs)) =
-      append-length (tells site x s) (told site (server.after site x s) (take w.n xs)) in
-      let below : length (told site (server.after site x s) (take w.n xs)) + w.j ≡ h.0 = w.number in
+      let w = where_told site xs (server.server_after site x s) h.0 t h.2 in
+      let more : length (tells site x s ++ told site (server.server_after site x s) (take w.n xs)) ≡ length (tells site x s)
+      + length (told site (server.server_after site x s) (take w.n xs)) =
+      append-length (tells site x s) (told site (server.server_after site x s) (take w.n xs)) in
+      let below : length (told site (server.server_after site x s) (take w.n xs)) + w.j ≡ h.0 = w.number in
       let here : i ≡ length (tells site x s) + h.0 = h.1 in
       record {
         n = suc w.n;
