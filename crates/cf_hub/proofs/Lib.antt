@@ -4,7 +4,7 @@ pub mod Puts
 pub mod Rows
 pub mod Walks
 pub mod Hubs
-pub mod Deliveries
+pub mod DeliveryOutcomes
 pub mod Ones
 pub mod Runs
 pub mod Bounds

@@ -11,7 +11,7 @@ use Rattle.cf_hub.specs.Rows.{Agrees}
 use Rattle.cf_hub.specs.Session.{Attached}
 use Rattle.cf_hub.specs.Turns.{get_turns, gets_turn}
 use Rattle.cf_hub.specs.WantOfMemory.{Both}
-use Rattle.cf_hub.proofs.Deliveries.{hit_more, hit_here, hit_still, hit_few, turns_snoc}
+use Rattle.cf_hub.proofs.DeliveryOutcomes.{hit_more, hit_here, hit_still, hit_few, turns_snoc}
 use Rattle.cf_hub.proofs.Hubs.{counted_both}
 
 -- the sessions below this number were pinged, and the others are as they were

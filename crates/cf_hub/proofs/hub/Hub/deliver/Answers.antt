@@ -1,7 +1,7 @@
 -- What `deliver_to_all` promises of each session, with the push that was written before, by the lemma `noted`.
 use Rattle.std.proofs.Common.{is_some, not}
 use Rattle.cf_hub.specs.Hub.{one_if}
-use Rattle.cf_hub.proofs.Deliveries.{noted}
+use Rattle.cf_hub.proofs.DeliveryOutcomes.{noted}
 use Rattle.cf_hub.proofs.hub.Hub.deliver.Goals as goal
 
 pub returns-clause-each : goal.returns-clause-each

@@ -10,8 +10,8 @@ use Rattle.cf_model.specs.Streams.{largest}
 use Rattle.cf_hub.specs.Places.{numbered}
 use Rattle.cf_hub.specs.Rows.{AgreedBefore, Agrees}
 use Rattle.cf_hub.specs.Session.{Attached, attached_shown, shown_all}
-use Rattle.cf_hub.proofs.Deliveries.{IsOnItsWay, starts, steps, goes_on, ends_before, ends_counted, ends_numbered}
-use Rattle.cf_hub.proofs.Deliveries.{ends_served, ends_so_many, ends_turns}
+use Rattle.cf_hub.proofs.DeliveryOutcomes.{IsOnItsWay, starts, steps, goes_on, ends_before, ends_counted, ends_numbered}
+use Rattle.cf_hub.proofs.DeliveryOutcomes.{ends_served, ends_so_many, ends_turns}
 use Rattle.cf_hub.proofs.Hubs.{agrees_shown, agrees_view, seen, seen_in}
 use Rattle.cf_hub.proofs.hub.Hub.deliver_to_all.Goals as goal
 use Rattle.cf_hub.proofs.hub.Hub.deliver_to_all.Goals.{In-None, In-Some}

@@ -1,5 +1,5 @@
 use Rattle.cf_hub.specs.Hub.{attached_in}
-use Rattle.cf_hub.proofs.Deliveries.{IsOnItsWay}
+use Rattle.cf_hub.proofs.DeliveryOutcomes.{IsOnItsWay}
 use Rattle.cf_hub.proofs.hub.Hub.deliver_to_all.Given as goal
 
 abbrev pub invariant-loop-session : goal.invariant-loop-session
