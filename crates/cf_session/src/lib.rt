@@ -25,5 +25,5 @@ pub use kind::CommandKind;
 pub use refusal::refusal_of;
 pub use refused::{hub_error, presence_error, stream_error};
 pub use serve::serve_text;
-pub use session::{Session, reply_of};
+pub use session::{Session, reply_text};
 pub use turn::{carry_on, hear_text};

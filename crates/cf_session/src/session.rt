@@ -527,7 +527,7 @@ impl<'a> Session<'a> {
         ensures work { work_at self.new.stage ≡ 0 }
     {
         let connects = is_connected(&outcome);
-        match reply_of(self.alloc, id, outcome) {
+        match reply_text(self.alloc, id, outcome) {
             Ok(text) => Action::Say(text),
             Err(_) if connects => self.give_up(),
             Err(_) => self.refuse_for_memory(id),
@@ -561,7 +561,7 @@ impl<'a> Session<'a> {
         let outcome = Outcome::Failed {
             code: ErrorCode::Internal.code(),
         };
-        match reply_of(self.alloc, id, outcome) {
+        match reply_text(self.alloc, id, outcome) {
             Ok(failed) => Action::Say(failed),
             Err(_) => {
                 self.refusals = 2;
@@ -609,7 +609,7 @@ fn frame_of(alloc: Global, text: &str) -> Result<Vec<Command>, ReadFault>
 }
 
 /// The text of the reply to a command.
-pub fn reply_of(alloc: Global, id: u32, outcome: Outcome) -> Result<String, AllocError>
+pub fn reply_text(alloc: Global, id: u32, outcome: Outcome) -> Result<String, AllocError>
     ensures { IfOk result (λ text. string_bytes text ≡ reply_text id (shown_outcome outcome)) }
 {
     write_reply(alloc, &Outgoing::Answer { id, outcome })

@@ -15,7 +15,7 @@ use cf_hub::Hub;
 use cf_presence::{Presence, PresenceError, Stats};
 use cf_protocol::{CloseCode, ErrorCode, Namespaces, Outcome, Position};
 use cf_queue::Out;
-use cf_session::{CommandExecutor, Publish, hub_error, presence_error, reply_of, stream_error};
+use cf_session::{CommandExecutor, Publish, hub_error, presence_error, reply_text, stream_error};
 use cf_stream::{History, StreamRefusal, Streams};
 use std::alloc::{AllocError, Global};
 use std::collections::BTreeMap;
@@ -118,7 +118,7 @@ impl LocalNode {
             position: history.position,
             publications: history.publications,
         };
-        match reply_of(self.alloc, id, outcome) {
+        match reply_text(self.alloc, id, outcome) {
             Ok(text) => {
                 self.tell(text);
                 Ok(())

@@ -10,7 +10,7 @@ use crate::out_of_memory::Short;
 use cf_hub::{Hub, HubRefusal};
 use cf_presence::Stats;
 use cf_protocol::{ErrorCode, Info, Outcome, Position};
-use cf_session::{Action, Answer, hub_error, reply_of};
+use cf_session::{Action, Answer, hub_error, reply_text};
 
 /// Carries out an action of the session of this number. The answer, if it is a call.
 pub(crate) fn carry_out_action(
@@ -170,7 +170,7 @@ fn history(
         position: history.position,
         publications: history.publications,
     };
-    let text = reply_of(broker.alloc, id, outcome)?;
+    let text = reply_text(broker.alloc, id, outcome)?;
     say(hub, number, text)?;
     Ok(Ok(()))
 }
