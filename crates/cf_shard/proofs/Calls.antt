@@ -23,7 +23,7 @@ use Rattle.cf_stream.specs.Streams.{StreamMap, repeat_at, stream_of, size_at, st
 use Rattle.cf_model.specs.Streams.{Life}
 use Rattle.cf_stream.specs.ChannelLists.{ShowsAt, StandsAt, PublishesAt, ReadsAt, ListsAt}
 use Rattle.cf_stream.specs.LogState.{IsState, Adds, life_in, opening, publishing, if_stands}
-use Rattle.cf_shard.specs.Shard.{IsShard, after_publish}
+use Rattle.cf_shard.specs.Shard.{IsShard, streams_after_publish}
 use Rattle.cf_shard.specs.ShardLog.{HasWhole, KeepsShare}
 use Rattle.cf_shard.specs.LogAnswer.{Follows, IsCall, IsPosition, IsPublished, IsReadAnswer, IsHistoryAnswer}
 
@@ -103,7 +103,7 @@ position_by_log t w k o c p h s = s.off (life_in t o.log) h.state.lists
 -- where a stream stands after a publish that is no repeat
 pub stands_after : (k : StreamMap) (c key : List ℕ) (d : Datum) (now : ℕ) (p : Published)
     → p ≡ answer_to (stood_or_opened k c p.position.epoch) key → p.repeated ≡ false
-    → StandsAt (after_publish k c p.position.epoch key d now) c (Some p.position)
+    → StandsAt (streams_after_publish k c p.position.epoch key d now) c (Some p.position)
 stands_after k c key d now p is fresh =
     let s : Shown = stood_or_opened k c p.position.epoch in
     let cases : (r : Option ℕ) → p ≡ answer_by r s.epoch s.top
@@ -113,7 +113,7 @@ stands_after k c key d now p is fresh =
       | None ↦ λ e. ap (λ (x : Published). x.position) e
       | Some o ↦ λ e. absurd (let yes : p.repeated ≡ true = ap (λ (x : Published). x.repeated) e in cc)
     ] in
-    StandsAt-from (after_publish k c p.position.epoch key d now) c (Some p.position)
+    StandsAt-from (streams_after_publish k c p.position.epoch key d now) c (Some p.position)
     (ap Some (cases (repeated_by s key) is)
     ∙ ap (option_map position_of) (sym (stream_of-put_at k c (Some (after_publish s key d now)) c
     ∙ ap (λ b. cond b (Some (after_publish s key d now)) (stream_of k c)) ((bytes_eq-Decides c c).1 refl))))

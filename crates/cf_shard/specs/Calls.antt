@@ -12,7 +12,7 @@ use Rattle.cf_stream.specs.declared.answer.Published.{Published}
 use Rattle.cf_stream.specs.ChannelLists.{PublishesAt, StandsAt}
 use Rattle.cf_stream.specs.Stream.{IsAtLast, trimmed}
 use Rattle.cf_stream.specs.Streams.{IsOfAnother, after_tick, put_at, repeat_at, seconds_at, stream_of}
-use Rattle.cf_shard.specs.Shard.{Draw, DrawsFor, FindsNoEpoch, IsFull, IsResized, IsStateOf, Lent, after_publish}
+use Rattle.cf_shard.specs.Shard.{Draw, DrawsFor, FindsNoEpoch, IsFull, IsResized, IsStateOf, Lent, streams_after_publish}
 use Rattle.cf_shard.specs.Shard.{after_use}
 use Rattle.cf_shard.specs.LogAnswer.{Follows}
 use Rattle.cf_shard.specs.ShardLog.{entries_of_forget, entries_of_publish, entries_of_size, entries_of_tick}
@@ -26,7 +26,7 @@ use Rattle.cf_shard.specs.declared.refusal.Refused.TheVariants.{AtLastOffset, Wr
 pub record HasPublished {E : Type 0} (draws : Draw E) (channel key : List ℕ) (d : Datum) (now : ℕ)
     (old new : Lent E)
     (p : Published) : Type 0 where
-  pub streams : new.streams ≡ after_publish old.streams channel p.position.epoch key d now
+  pub streams : new.streams ≡ streams_after_publish old.streams channel p.position.epoch key d now
   pub log : new.log ≡ old.log ++ entries_of_publish p.repeated old.streams channel p.position.epoch key d
   pub drawn : DrawsFor draws channel p.position.epoch old new
 

@@ -67,8 +67,8 @@ LacksRoom entries e old new = (e ≡ LastCount) × (new ≡ old) × IsFull old.l
 
 -- the streams after a publish under this key, and after a read or a history, at a moment: the channel's stream opens
 -- in this epoch if there is none
-abbrev pub after_publish : StreamMap → (channel epoch key : List ℕ) → Datum → (now : ℕ) → StreamMap
-after_publish k c e key d now = put_at k c (Some (after_publish (stood_or_opened k c e) key d now))
+abbrev pub streams_after_publish : StreamMap → (channel epoch key : List ℕ) → Datum → (now : ℕ) → StreamMap
+streams_after_publish k c e key d now = put_at k c (Some (after_publish (stood_or_opened k c e) key d now))
 
 abbrev pub after_use : StreamMap → (channel epoch : List ℕ) → (now : ℕ) → StreamMap
 after_use k c e now = put_at k c (Some (used_at (stood_or_opened k c e) now))
