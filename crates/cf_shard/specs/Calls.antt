@@ -12,7 +12,8 @@ use Rattle.cf_stream.specs.declared.answer.Published.{Published}
 use Rattle.cf_stream.specs.ChannelLists.{PublishesAt, StandsAt}
 use Rattle.cf_stream.specs.Stream.{IsAtLast, trimmed}
 use Rattle.cf_stream.specs.Streams.{IsOfAnother, after_tick, put_at, repeat_at, seconds_at, stream_of}
-use Rattle.cf_shard.specs.Shard.{Draw, DrawsFor, FindsNoEpoch, IsFull, IsResized, IsStateOf, Lent, streams_after_publish}
+use Rattle.cf_shard.specs.Shard.{Draw, DrawsFor, FindsNoEpoch, IsFull, IsResized, IsStateOf, Lent}
+use Rattle.cf_shard.specs.Shard.{streams_after_publish}
 use Rattle.cf_shard.specs.Shard.{after_use}
 use Rattle.cf_shard.specs.LogAnswer.{Follows}
 use Rattle.cf_shard.specs.ShardLog.{entries_of_forget, entries_of_publish, entries_of_size, entries_of_tick}

@@ -2,7 +2,7 @@
 use Rattle.std.proofs.Common.{◌≡◌, ◌∙◌, false, Some, None, List, ℕ, refl, sym, subst}
 use Rattle.std.specs.Io.KnownBytes.{Appends, Keeps}
 use Rattle.cf_session.specs.Standing.{met_refused_memory, progress_of, tables_of}
-use Rattle.cf_speak.specs.Scene.{met_refused_memory, waits}
+use Rattle.cf_speak.specs.Scene.{met_refused_memory as node_met_refused_memory, waits}
 use Rattle.cf_speak.specs.Shown.{scene_of}
 use Rattle.cf_session.specs.Played.{Serves}
 use Rattle.cf_speak.proofs.Playing.{does_at, over_at, serves_long}
@@ -18,7 +18,7 @@ kept_after (Some p) None c xs h k = absurd h
 pub returns-clause-answers : goal.returns-clause-answers
 returns-clause-answers g c =
     let long : met_refused_memory c.serve_text.new.session ≡ false = sym c.short.ensures ∙ c.if-short.false in
-    let well : met_refused_memory (scene_of c.serve_text.new.node) ≡ false =
+    let well : node_met_refused_memory (scene_of c.serve_text.new.node) ≡ false =
     sym c.is_out_of_memory.ensures ∙ c.if-is_out_of_memory.false in
     record {
       text = c.in-Ok.ensures.cases.1;
