@@ -36,7 +36,7 @@ pub struct Session<'a> {
     client: Option<Info>,
     frame: VecDeque<Command>,
     stage: ScriptStage,
-    met_refused_memory: bool,
+    is_short: bool,
     /// How many requests for memory the last call had refused.
     refusals: u8,
     alloc: Global,
@@ -51,7 +51,7 @@ impl Drop for Session<'_> {
             client: _,
             frame: _,
             stage: _,
-            met_refused_memory: _,
+            is_short: _,
             refusals: _,
             alloc: _,
         } = self;
@@ -93,7 +93,7 @@ impl<'a> Session<'a> {
             client: None,
             frame: VecDeque::new(alloc),
             stage: ScriptStage::Ready,
-            met_refused_memory: false,
+            is_short: false,
             refusals: 0,
             alloc,
         }
