@@ -75,7 +75,7 @@ by_answer after other = None
 pub record ListsFor (site : Site) (s : Server) (k : ℕ) (who : Who) (next : Script) (c : List ℕ) (id : ℕ)
     (p : Position) (items : List Placed) : Type 0 where
   pub note : Note
-  pub in_hand : ((after site (AsksShard k) s).connections k).work ≡ ToSay c note
+  pub in_hand : ((server_after site (AsksShard k) s).connections k).work ≡ ToSay c note
   pub says : SaysLater (lists_of site s) note (Reply id (Past p items))
   pub said : HasInHand site (ran site s (AsksShard k ∷ Says k ∷ [])) k who next (replies id next Done)
   pub fails : (e : ErrorCode)

@@ -26,7 +26,7 @@ pub struct World<'a> {
 
 impl<'a> Model for World<'a> {
     ghost use Rattle.cf_schedule.specs.Running.{Running};
-    ghost use Rattle.cf_world.specs.contracts.world.World as world;
+    ghost use Rattle.cf_world.specs.contracts.world.WorldParts as world;
     ghost use Rattle.std.specs.Coded.{codes};
     ghost use denote.Signature.{static_lft};
 

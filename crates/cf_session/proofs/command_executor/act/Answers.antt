@@ -7,7 +7,7 @@ use Rattle.cf_session.proofs.command_executor.act.Goals as goal
 
 pub returns-in-Leave-clause-does : goal.returns-in-Leave-clause-does
 returns-in-Leave-clause-does g c =
-    subst (λ (a : Action). g.N.Node.does c.args.node.now (shown_action a) (Some Done) c.leave.new.self)
+    subst (λ (a : Action). g.N.CommandExecutor.does c.args.node.now (shown_action a) (Some Done) c.leave.new.self)
     (sym c.in-Leave.is)
-    (subst (λ (bytes : List ℕ). g.N.Node.does c.args.node.now (Calls (Leave bytes)) (Some Done) c.leave.new.self)
+    (subst (λ (bytes : List ℕ). g.N.CommandExecutor.does c.args.node.now (Calls (Leave bytes)) (Some Done) c.leave.new.self)
     c.as_str-in-Leave.ensures.value c.leave.ensures.does)

@@ -7,7 +7,7 @@ pub loop-init : goal.loop-init
 loop-init g c =
     record {
       goes = λ long.
-          goes_first g.N.Node.closed g.N.Node.does (tables_of c.args.session.now) (progress_of c.args.session.now)
+          goes_first g.N.CommandExecutor.closed g.N.CommandExecutor.does (tables_of c.args.session.now) (progress_of c.args.session.now)
           (progress_of c.hear_text.new.session)
           c.args.node.now c.args.text.now (c.hear_text.ensures.hears long);
       ready = c.hear_text.ensures.ready;
@@ -22,7 +22,7 @@ loop-preserved g c =
     let last = c.carry_on.new.session in
     record {
       goes = λ long.
-          goes_on g.N.Node.closed g.N.Node.does (tables_of c.args.session.now) (progress_of c.args.session.now)
+          goes_on g.N.CommandExecutor.closed g.N.CommandExecutor.does (tables_of c.args.session.now) (progress_of c.args.session.now)
           (progress_of head) (progress_of last)
           c.args.node.now c.loop.node c.carry_on.new.node c.args.text.now
           (before.goes (still_long (met_refused_memory head) (met_refused_memory last) c.carry_on.ensures.keeps.short
@@ -40,13 +40,13 @@ returns-clause-serves g c = λ long.
     let before = c.loop.invariant in
     let head = c.loop.session in
     let last = c.carry_on.new.session in
-    serves_gone g.N.Node.closed g.N.Node.does (tables_of c.args.session.now) (progress_of c.args.session.now)
+    serves_gone g.N.CommandExecutor.closed g.N.CommandExecutor.does (tables_of c.args.session.now) (progress_of c.args.session.now)
     (progress_of last)
     c.args.node.now c.carry_on.new.node c.args.text.now c.requires.stands
-    (goes_on g.N.Node.closed g.N.Node.does (tables_of c.args.session.now) (progress_of c.args.session.now)
+    (goes_on g.N.CommandExecutor.closed g.N.CommandExecutor.does (tables_of c.args.session.now) (progress_of c.args.session.now)
     (progress_of head) (progress_of last)
     c.args.node.now c.loop.node c.carry_on.new.node c.args.text.now
     (before.goes (still_long (met_refused_memory head) (met_refused_memory last) c.carry_on.ensures.keeps.short long))
     (c.carry_on.ensures.leads long))
     c.carry_on.ensures.ready.awaits
-    (done_ends (g.N.Node.closed c.carry_on.new.node) last (sym c.carry_on.ensures.done ∙ c.loop-test.false))
+    (done_ends (g.N.CommandExecutor.closed c.carry_on.new.node) last (sym c.carry_on.ensures.done ∙ c.loop-test.false))

@@ -7,11 +7,11 @@ use Rattle.cf_session.proofs.serve.serve_text.Given as goal
 abbrev pub invariant-loop : goal.invariant-loop
 invariant-loop g l = record {
   goes : met_refused_memory l.session ≡ false
-      → Goes g.N.Node.closed g.N.Node.does (tables_of l.fn.session) (progress_of l.fn.session) l.fn.node l.text
+      → Goes g.N.CommandExecutor.closed g.N.CommandExecutor.does (tables_of l.fn.session) (progress_of l.fn.session) l.fn.node l.text
       (progress_of l.session) l.node;
   ready : CanGoOn l.session;
   keeps : StaysSetUp l.fn.session l.session;
-  namespaces : g.N.Node.namespaces l.node ≡ g.N.Node.namespaces l.fn.node;
+  namespaces : g.N.CommandExecutor.namespaces l.node ≡ g.N.CommandExecutor.namespaces l.fn.node;
 }
 
 abbrev pub decreases-loop : goal.decreases-loop

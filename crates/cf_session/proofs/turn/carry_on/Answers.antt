@@ -24,7 +24,7 @@ loop-session-preserved g c =
     let less : work_of last < work_of head = c.step.ensures.work c.if-not-step.false in
     record {
       leads = λ long.
-          leads_more g.N.Node.closed g.N.Node.does (progress_of c.args.session.now) (progress_of head)
+          leads_more g.N.CommandExecutor.closed g.N.CommandExecutor.does (progress_of c.args.session.now) (progress_of head)
           (progress_of last) c.args.node.now c.loop-session.node c.step.new.node
           (before.leads (still_long (met_refused_memory head) (met_refused_memory last) c.step.ensures.keeps.short
           long)) (c.step.ensures.leads long);

@@ -7,11 +7,11 @@ use Rattle.cf_session.proofs.turn.carry_on.Given as goal
 abbrev pub invariant-loop-session : goal.invariant-loop-session
 invariant-loop-session g l = record {
   leads : met_refused_memory l.session ≡ false
-      → LeadsOn g.N.Node.closed g.N.Node.does (progress_of l.fn.session) l.fn.node (progress_of l.session) l.node;
+      → LeadsOn g.N.CommandExecutor.closed g.N.CommandExecutor.does (progress_of l.fn.session) l.fn.node (progress_of l.session) l.node;
   ready : CanGoOn l.session;
   keeps : StaysSetUp l.fn.session l.session;
-  namespaces : g.N.Node.namespaces l.node ≡ g.N.Node.namespaces l.fn.node;
-  spends : Spends g.N.Node.closed g.N.Node.does l.fn.node (units_left l.fn.budget) l.node (units_left l.budget);
+  namespaces : g.N.CommandExecutor.namespaces l.node ≡ g.N.CommandExecutor.namespaces l.fn.node;
+  spends : Spends g.N.CommandExecutor.closed g.N.CommandExecutor.does l.fn.node (units_left l.fn.budget) l.node (units_left l.budget);
   down : work_of l.session ≤ work_of l.fn.session;
   work : (work_of l.session < work_of l.fn.session) ⊎ (units_left l.budget ≡ units_left l.fn.budget);
 }

@@ -15,7 +15,7 @@ pub returns-in-Some-clause-next : goal.returns-in-Some-clause-next
 returns-in-Some-clause-next g c = λ p d long.
     let old = c.args.session.now in
     let last = c.answered.new.self in
-    next_call_done g.N.Node.closed g.N.Node.does p (progress_of old) (progress_of last) (shown_action c.args.action)
+    next_call_done g.N.CommandExecutor.closed g.N.CommandExecutor.does p (progress_of old) (progress_of last) (shown_action c.args.action)
     (answer_kind c.in-Some.answer)
     (shown_answer c.in-Some.answer) c.args.node.now c.act.new.node d c.in-Some.ensures.does (sym c.in-Some.ensures.kind)
     (answered_long (shown_answer c.in-Some.answer) (progress_of old) (progress_of last) (refusals last)

@@ -46,7 +46,7 @@ returns-clause-leads g c = λ long.
     (refusals next) c.in-Some.ensures.acts
     (long_now (met_refused_memory head) (met_refused_memory next) (refusals next) c.next_action.ensures.keeps.short
     long_next) in
-    next_leads g.N.Node.closed g.N.Node.does (progress_of head) (progress_of last) c.args.node.now c.carry_out.new.node
+    next_leads g.N.CommandExecutor.closed g.N.CommandExecutor.does (progress_of head) (progress_of last) c.args.node.now c.carry_out.new.node
     c.requires.stands
     (c.carry_out.ensures.next (progress_of head) d long)
 
@@ -54,7 +54,7 @@ pub returns-clause-spends : goal.returns-clause-spends
 returns-clause-spends g c = λ n units so_far.
     let paid : units_left c.spend.new.self ≡ units_left c.args.budget.now - cost (shown_action c.in-Some.action) =
     c.spend.ensures ∙ ap (λ k. units_left c.args.budget.now - k) c.cost_of.ensures in
-    subst (λ (left : ℕ). Spends g.N.Node.closed g.N.Node.does n units c.carry_out.new.node left) (sym paid)
+    subst (λ (left : ℕ). Spends g.N.CommandExecutor.closed g.N.CommandExecutor.does n units c.carry_out.new.node left) (sym paid)
     (acts c.args.node.now c.carry_out.new.node (units_left c.args.budget.now) (shown_action c.in-Some.action) so_far
     c.requires.stands c.requires.left c.carry_out.ensures.does)
 
@@ -84,7 +84,7 @@ returns-in_default-clause-leads g c = λ long.
     let done : Acts (tables_of head) (progress_of head) None (progress_of next) (refusals next) =
     subst (λ (r : Option Action). Acts (tables_of head) (progress_of head) (option_map shown_action r)
     (progress_of next) (refusals next)) c.in_default.is c.next_action.ensures.acts in
-    leads_same g.N.Node.closed g.N.Node.does (progress_of head) (progress_of next) c.args.node.now
+    leads_same g.N.CommandExecutor.closed g.N.CommandExecutor.does (progress_of head) (progress_of next) c.args.node.now
     (acts_none (tables_of head) (progress_of head) (progress_of next) (refusals next) done c.requires.ready.awaits)
 
 pub returns-in_default-clause-ready : goal.returns-in_default-clause-ready
