@@ -76,8 +76,8 @@ returns-in_default-get_mut c = λ cfg past t.
     let none = none-there c.args.self.now.hubs s.node c.in_default-get_mut.ensures.variant.1 in
     absurd (cc)
 
-pub returns-in_default-asked : goal.returns-in_default-asked
-returns-in_default-asked c = λ cfg past t.
+pub returns-in_default-unread_subscription : goal.returns-in_default-unread_subscription
+returns-in_default-unread_subscription c = λ cfg past t.
     let k : Peer = c.in-Some.peer.now in
     let x : List ℕ = c.args.name.now in
     let old = c.args.self.now.clients in
@@ -95,10 +95,10 @@ returns-in_default-asked c = λ cfg past t.
     let h : Node = c.in-Some-get_mut.hub.now in
     let v = lends c.args.self.now.hubs s.node h h (c.in-Some-get_mut.ensures.variant.0 refl)
     c.in-Some-get_mut.ensures.value in
-    let none : c.asked.result ≡ None = search rules in
+    let none : c.unread_subscription.result ≡ None = search rules in
     pair-still (unmoved v refl) (peer-still pv) (
-      read-unasked t.0 x c.args.channel.now s (seat_here (get_by_text old) x k at ∙ sits) c.asked.result
-          (asks-there s.session c.args.channel.now v c.asked.ensures) none,
+      read-unasked t.0 x c.args.channel.now s (seat_here (get_by_text old) x k at ∙ sits) c.unread_subscription.result
+          (asks-there s.session c.args.channel.now v c.unread_subscription.ensures) none,
       t.1,
     )
 
@@ -154,8 +154,8 @@ returns c = λ cfg past t.
     let v = lends c.args.self.now.hubs s.node h g (c.in-Some-get_mut.ensures.variant.0 refl)
     c.in-Some-get_mut.ensures.value in
     let opens : c.can_open.result ≡ true = search rules in
-    let a : UnreadSubscription = c.in-Some-asked._asked in
-    let asked : asked_of (sub_at h s.session c.args.channel.now) ≡ Some a = sym c.asked.ensures ∙ c.in-Some-asked.is in
+    let a : UnreadSubscription = c.in-Some-unread_subscription._asked in
+    let asked : asked_of (sub_at h s.session c.args.channel.now) ≡ Some a = sym c.unread_subscription.ensures ∙ c.in-Some-unread_subscription.is in
     read-done t.0 t.1 x c.args.channel.now s f a c.step.new.broker v pv sits asked
     (sym (c.can_open.ensures cfg.namespaces w.broker t.0.broker) ∙ opens) c.in_ok-step.ensures
     (c.epochs_are_fresh.ensures cfg past) c.what_is_said_stays.ensures.grows c.what_is_said_stays.ensures.read
