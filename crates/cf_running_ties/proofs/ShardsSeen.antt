@@ -61,7 +61,7 @@ module _ (twice : GivesNoneTwice draws_next) (c : List ℕ) (shard : Lent Source
     said = h.said;
     short = λ e before begins opened.
         let is : length (list_in before c) ≡ length (listed_in before c e) = ap length (once e before begins opened) in
-        let listed : length (listed_in before c e) ≤ length before = listed-short c e before no_turn in
+        let listed : length (listed_in before c e) ≤ 0 + length before = listed-short c e before no_turn in
         let within : length before ≤ length shard.log =
         prefix_length before shard.log (prefix_trans before seen shard.log begins h.begins) in
         let counted : length shard.log ≤ max_u64 = h.counted in
