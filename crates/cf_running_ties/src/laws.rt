@@ -192,8 +192,8 @@ pub fn what_is_read_is_listed()
     what_is_said_stays();
 }
 
-/// What a node has seen of the shards' logs is sound, if each is gained entry by entry and what it has can be said: a stream of an
-/// epoch has all that was ever published to its channel in that epoch, and that can be read back. So what the type of a node's
+/// What a node has seen of the shards' logs is sound, if each is gained entry by entry and what it has can be said: a stream of
+/// an epoch has all that was ever published to its channel in that epoch, and that can be read back. So what the type of a node's
 /// hub keeps, that each session says only what stands in what was seen, holds without a premise for such logs, as
 /// `drawn_epochs_are_new` has them.
 pub fn what_is_seen_is_sound()
