@@ -20,8 +20,8 @@ use std::collections::BTreeMap;
 /// From this code of an unsubscribe push on the client has to ask again.
 const ASKS_AGAIN: u32 = 2500;
 
-/// What is to change of what a client knows, the modes of channels that it asked for and the calls that are answered; and what its
-/// application gets then.
+/// What is to change of what a client knows, the modes of channels that it asked for and the calls that are answered; and what
+/// its application gets then.
 #[derive(Drop)]
 pub(crate) struct Draft {
     changed: BTreeMap<String, Mode>,

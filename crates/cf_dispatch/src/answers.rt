@@ -7,7 +7,8 @@ use cf_hub::Checked;
 use cf_protocol::{ErrorCode, Namespaces};
 use cf_shard::Refused;
 
-/// The error code with which a reply says that the broker refused a call: 106 at the last offset, 112 for another epoch, else 100.
+/// The error code with which a reply says that the broker refused a call: 106 at the last offset, 112 for another epoch, else
+/// 100.
 pub fn broker_error(refused: Refused) -> ErrorCode
     ensures { result ≡ refusal_code (of_broker refused) }
 {

@@ -1,5 +1,5 @@
-//! What a node's two workers decide, over what is lent to them: a publication that comes is brought to the hub, what waits in the hub
-//! for its clients is taken for them, and who gets nowhere, or doesn't answer, is told apart from who wasn't heard.
+//! What a node's two workers decide, over what is lent to them: a publication that comes is brought to the hub, what waits in the
+//! hub for its clients is taken for them, and who gets nowhere, or doesn't answer, is told apart from who wasn't heard.
 //!
 //! That workers take turns is this project's own; Centrifugo's documents say what a client gets, not by whom.
 #![tactic(auto)]

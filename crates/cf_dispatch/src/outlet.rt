@@ -38,8 +38,8 @@ impl Taken {
 }
 
 /// Takes what waits for a session, the first first, and puts it behind what was taken for it before, until nothing waits or
-/// 65,536 bytes of texts, or as many items, were taken. Where its wire isn't free, or what was taken is another session's, nothing
-/// is taken.
+/// 65,536 bytes of texts, or as many items, were taken. Where its wire isn't free, or what was taken is another session's,
+/// nothing is taken.
 pub fn take_for<N: Naming>(
     hub: &mut NodeHub<N>,
     session: u32,

@@ -36,9 +36,9 @@ impl Group {
 
 /// To which group a turn of the loop comes first, and from there on round and round.
 ///
-/// A group has its chance where nothing holds up those who may be held as the turn comes to it. Who comes first may fill the links, and
-/// leave none to the others: so turns are counted in which some groups had their chance and some had none. Of sixteen of these the cheap
-/// ones come first in fifteen, and then one of the two others, each in its turn.
+/// A group has its chance where nothing holds up those who may be held as the turn comes to it. Who comes first may fill the
+/// links, and leave none to the others: so turns are counted in which some groups had their chance and some had none. Of sixteen
+/// of these the cheap ones come first in fifteen, and then one of the two others, each in its turn.
 #[derive(Drop)]
 pub struct Rota {
     // In so many turns the cheap ones still come first.

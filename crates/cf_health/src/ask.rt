@@ -23,9 +23,9 @@ pub enum HealthAsk {
     Other,
 }
 
-/// How the head of a request, with which bytes begin, asks for a node's health otherwise than by `GET`: its path is `/health`, with
-/// a query or without, and one line names the host, or none in HTTP/1.0. `None` if it doesn't, or has more than 124 lines, or
-/// the bytes begin with no whole head.
+/// How the head of a request, with which bytes begin, asks for a node's health otherwise than by `GET`: its path is `/health`,
+/// with a query or without, and one line names the host, or none in HTTP/1.0. `None` if it doesn't, or has more than 124 lines,
+/// or the bytes begin with no whole head.
 pub fn health_ask(bytes: &[u8]) -> Option<HealthAsk>
     ensures read { (h : RequestHead) (rest : List ℕ) → IsBegun bytes.now h rest
         → result ≡ ask_of (request_of h) }

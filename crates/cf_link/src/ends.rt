@@ -93,8 +93,8 @@ pub fn pair<T: Drop>(alloc: Global, capacity: usize) -> Result<(Sender<T>, Recei
 
 impl<T> Sender<T> {
     /// Sends an item, and wakes nobody: `ring` does, once for all that was sent. The item comes back if the link was full at one
-    /// moment of the call: as many as it has room for were sent behind those that this end was told to have been received. It takes
-    /// no memory.
+    /// moment of the call: as many as it has room for were sent behind those that this end was told to have been received. It
+    /// takes no memory.
     pub fn send(&mut self, rt: &impl Wait, item: T) -> Result<(), T>
         ensures same { IsSameLink self.new self.old }
         ensures sent { OnOk result (self.new.items ≡ self.old.items ++ item ∷ []) }

@@ -1,4 +1,5 @@
--- What a deployment fixes: how many nodes it has, and the namespaces that are set up.
+-- What a deployment fixes: how many nodes it has, and the namespaces that are set up. Nothing of it changes in a
+-- run: a size that is set stands with the broker.
 use Rattle.std.specs.Prelude.{ℕ}
 use Rattle.cf_protocol.specs.Settings.{NamespaceTable}
 

@@ -1,4 +1,5 @@
--- What befalls one client at one channel, as the events and a trace tell it.
+-- What befalls one client at one channel, as the events and a trace tell it. An event says that it asks, that its node
+-- reads, or that it stops; an entry says what its application was told.
 use Rattle.std.specs.Prelude.{ℕ, suc, ◌==◌, Bool, true, false, if◌then◌else◌, Option, Some, None, List, [], ◌∷◌, ◌++◌}
 use Rattle.std.specs.Str.{bytes_eq}
 use Rattle.cf_protocol.specs.Position.{Position}

@@ -1,4 +1,5 @@
--- A client's session in the machine: cf_hub's, with notes for what waits and, before a reply, the places that came.
+-- A client's session in the machine: that of cf_model, with notes for what waits and, before a reply, the places that
+-- came. It has no texts and no data.
 use Rattle.std.specs.Prelude.{List}
 use Rattle.cf_protocol.specs.Position.{Position}
 use Rattle.cf_protocol.specs.Note.{Note}

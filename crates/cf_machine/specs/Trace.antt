@@ -1,5 +1,5 @@
--- What the clients' applications got in a run. (Centrifugo's client protocol: subscribed, publication, unsubscribed
--- and error events.)
+-- What the clients' applications got in a run. Each entry has its event's number, the client, and what it was told.
+-- (Centrifugo's client protocol: subscribed, publication, unsubscribed and error events.)
 use Rattle.std.specs.Prelude.{ℕ, Bool, List}
 use Rattle.cf_protocol.specs.declared.position.Position.{Position}
 

@@ -1,4 +1,4 @@
--- How the machine says and keeps things is how a session speaks in notes, by cf_hub; and how long a command's one
+-- How the machine says and keeps things is how a session speaks in notes, by cf_model; and how long a command's one
 -- text is. Before a reply all places are kept that came: if a node gives them up, it finishes as if too many had
 -- come (see LooseRun).
 use Rattle.std.specs.Prelude.{ℕ, length}

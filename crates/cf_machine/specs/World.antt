@@ -1,4 +1,5 @@
--- The broker, the nodes and all clients.
+-- The broker, the nodes and all clients. A session stands with its client's link, and a node is a number that links
+-- name.
 use Rattle.std.specs.Prelude.{ℕ, suc, ◌+◌, ◌==◌, ◌&&◌, ◌||◌, not, Bool, false, if◌then◌else◌, is_some, Option, Some}
 use Rattle.std.specs.Prelude.{None, List, [], ◌∷◌}
 use Rattle.cf_protocol.specs.Names.{with}

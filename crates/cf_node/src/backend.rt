@@ -46,8 +46,8 @@ pub(crate) trait Backend {
     /// What is shared with the worker that brings publications.
     fn shared(&self) -> &Shared<Self::Of>;
 
-    /// Whether some node is behind with what was published, with some of what this node published last too, so that who publishes is
-    /// to wait.
+    /// Whether some node is behind with what was published, with some of what this node published last too, so that who publishes
+    /// is to wait.
     fn is_crowded(&self) -> bool;
 
     /// A publication was accepted that costs so much.
@@ -71,8 +71,8 @@ pub(crate) trait Backend {
         ensures { IfOk result (WasPublished Self.Of.Naming.namespaces (string_bytes publish.channel)
             (string_bytes publish.key) (string_bytes publish.body) publish.info) };
 
-    /// A read of the channel's stream for a subscription that has begun, from where it asked: what it answers, and a pass by which it
-    /// was read, which has seen what its hub had seen as it began.
+    /// A read of the channel's stream for a subscription that has begun, from where it asked: what it answers, and a pass by
+    /// which it was read, which has seen what its hub had seen as it began.
     fn read(&self, begun: &mut Begun<Self::Of>, now: u64) -> Result<(Recovery, Pass), Refused>
         requires { IsSome (settings_of Self.Of.Naming.namespaces begun.old.channel) }
         ensures same { begun.new ≡ begun.old }

@@ -37,7 +37,8 @@ pub(crate) struct CommandHandler<'a, B: Backend> {
     pub(crate) has_published: bool,
     /// It published while some node was behind: it goes on once none is.
     pub(crate) is_held: bool,
-    /// In this turn it hears nothing that may publish: little is known of it, and others wait of whom little is, or who is held has to.
+    /// In this turn it hears nothing that may publish: little is known of it, and others wait of whom little is, or who is held
+    /// has to.
     pub(crate) is_barred: bool,
     /// What the turn costs so far in which its client was heard last.
     pub(crate) cost: u64,
@@ -268,8 +269,8 @@ impl<'a, B: Backend> CommandHandler<'a, B> {
         }
     }
 
-    /// Its client is heard in a turn at this moment, in seconds, whose cost is counted from now on, and in which what may publish is
-    /// put off, or not, if little is known of it.
+    /// Its client is heard in a turn at this moment, in seconds, whose cost is counted from now on, and in which what may publish
+    /// is put off, or not, if little is known of it.
     pub(crate) fn begin_turn(&mut self, now: u64, bars: bool) {
         self.is_barred = bars && self.turns < TURNS_TO_KNOW && !self.is_dear();
         self.turns = self.turns.saturating_add(1);
@@ -284,8 +285,8 @@ impl<'a, B: Backend> CommandHandler<'a, B> {
         self.cost.max(self.expected / 2) >= DEAR
     }
 
-    /// By what its next turn is expected to cost. What its client does next may cost much more than its last turn where it has shown
-    /// little since it came or was idle, what it showed was cheap, and it isn't held. Who waits for its turn isn't idle.
+    /// By what its next turn is expected to cost. What its client does next may cost much more than its last turn where it has
+    /// shown little since it came or was idle, what it showed was cheap, and it isn't held. Who waits for its turn isn't idle.
     pub(crate) fn group(&self, is_held: bool) -> Group {
         if self.is_dear() {
             Group::Dear

@@ -23,7 +23,8 @@ pub(crate) fn cost_of(bytes: usize, clients: u64) -> u64 {
     clients.saturating_mul(PUSH.saturating_add(bytes as u64))
 }
 
-/// Whether a text may ask for a publish: one that does has this word, or letters that are written as escapes (RFC 8259, section 7).
+/// Whether a text may ask for a publish: one that does has this word, or letters that are written as escapes (RFC 8259, section
+/// 7).
 pub(crate) fn may_publish(text: &str) -> bool {
     text.contains("publish") || text.contains("\\u")
 }

@@ -34,8 +34,8 @@ const MOST_PARTS: usize = 96;
 /// Once so many bytes came up for the client in a turn, no further part is carried out in it.
 const MOST_SAID: usize = 65_536;
 
-/// A socket of which so many bytes were heard within a second may have been full, so that what its client sent behind them came to it
-/// later.
+/// A socket of which so many bytes were heard within a second may have been full, so that what its client sent behind them came
+/// to it later.
 const FULL_SOCKET: usize = 16_384;
 
 /// So many times at most what waits in the hub is taken for a part: each takes 65,536 bytes, or all.
@@ -220,7 +220,8 @@ impl<'a, B: Backend> SessionDesk<'a, B> {
         !is_put_off && (self.goes_on() || left_off && self.has_heard)
     }
 
-    /// Whether so much was heard since this was last asked that something which was sent by now may have had no room in the socket.
+    /// Whether so much was heard since this was last asked that something which was sent by now may have had no room in the
+    /// socket.
     pub(crate) fn heard_much(&mut self) -> bool {
         mem::replace(&mut self.heard_bytes, 0) >= FULL_SOCKET
     }
@@ -263,8 +264,8 @@ impl<'a, B: Backend> SessionDesk<'a, B> {
         mem::replace(&mut self.outbox, Outbox::new(self.handler.backend.alloc()))
     }
 
-    /// What was lent comes back with what was taken since, where it is of the client's own session; and more may wait for it in the
-    /// hub, or not.
+    /// What was lent comes back with what was taken since, where it is of the client's own session; and more may wait for it in
+    /// the hub, or not.
     pub(crate) fn give(&mut self, outbox: Outbox, more: bool)
         ensures own { outbox.session ≡ self.old.handler.client.standing.number
             → self.new.outbox ≡ outbox }

@@ -1,6 +1,6 @@
 //! A connection that is let go: what is left to be written goes out, its client is told that nothing more comes, and then it is
-//! kept until its client has read that. A socket that is closed while its client still sends is reset, and what was written last, a
-//! close frame or an answer, may be lost by it.
+//! kept until its client has read that. A socket that is closed while its client still sends is reset, and what was written last,
+//! a close frame or an answer, may be lost by it.
 use crate::connection::Turned;
 use crate::socket::Socket;
 use cf_handshake::health_answer;

@@ -11,8 +11,8 @@ const MOST: u64 = 64;
 
 const FEW: u64 = 4;
 
-/// What a node published last, in two parts. Once the newer part is full, the older one has to be brought to all nodes before the node
-/// publishes more. A link is first in, first out, so a part is brought to a node once so many publications were.
+/// What a node published last, in two parts. Once the newer part is full, the older one has to be brought to all nodes before the
+/// node publishes more. A link is first in, first out, so a part is brought to a node once so many publications were.
 #[derive(Drop)]
 pub(crate) struct Window {
     // By node: how many publications were brought to it once the part is.

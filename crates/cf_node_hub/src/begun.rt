@@ -7,9 +7,9 @@ use cf_protocol::Position;
 use cf_shard::{Naming, ShardWords, shard_of};
 use std::marker::{Model, PhantomData};
 
-/// A subscription that a session has begun: its channel's stream is to be read for it, from the position from which it asked, and by
-/// a pass that has seen what the node had seen as it began. Only a hub makes one, and it can't be changed or copied; what was read
-/// ends it.
+/// A subscription that a session has begun: its channel's stream is to be read for it, from the position from which it asked, and
+/// by a pass that has seen what the node had seen as it began. Only a hub makes one, and it can't be changed or copied; what was
+/// read ends it.
 #[derive(Drop)]
 pub struct Begun<N: Naming> {
     pub(crate) session: u32,

@@ -22,8 +22,8 @@ use cf_shard::{Delivery, Naming, Passes, SHARDS, ShardWords, shard_of};
 use std::alloc::Global;
 use std::marker::{Model, PhantomData};
 
-/// The sessions of one node, and what it has seen of the shards' logs: each session says notes whose publications stand in what was
-/// seen, and replies of its own. Its calls are those of its hub, and say what the hub's own say.
+/// The sessions of one node, and what it has seen of the shards' logs: each session says notes whose publications stand in what
+/// was seen, and replies of its own. Its calls are those of its hub, and say what the hub's own say.
 #[derive(Drop)]
 pub struct NodeHub<N: Naming> {
     pub(crate) hub: Hub,
@@ -55,7 +55,8 @@ fn lent_of<N: Naming, W: ShardWords<N>>(passes: &mut Passes<N>, words: &W, shard
 }
 
 impl<N: Naming> NodeHub<N> {
-    /// A node's sessions, none at first, under a boot number that the node never had before, beside these passes. It takes no memory.
+    /// A node's sessions, none at first, under a boot number that the node never had before, beside these passes. It takes no
+    /// memory.
     pub fn new(alloc: Global, node: u8, boot: u64, seen: Passes<N>) -> NodeHub<N>
         ensures { result ≡ record { node = empty node boot; seen = seen } }
     {

@@ -34,9 +34,9 @@ fn asks_from(hub: &Hub, session: u32, channel: &str, since: Option<Position>) ->
 }
 
 impl<N: Naming> NodeHub<N> {
-    /// Takes what the read for a subscription gave, once, with the pass by which it was read. It takes no other answer than that of
-    /// a read of the channel's shard, from the position from which the subscription asked, and at a point of the shard's log that
-    /// has all that the node had seen as it began. False where the session doesn't ask for the channel from there, or has it
+    /// Takes what the read for a subscription gave, once, with the pass by which it was read. It takes no other answer than that
+    /// of a read of the channel's shard, from the position from which the subscription asked, and at a point of the shard's log
+    /// that has all that the node had seen as it began. False where the session doesn't ask for the channel from there, or has it
     /// already; then no session changes.
     pub fn read_done<W: ShardWords<N>>(
         &mut self,
@@ -84,8 +84,8 @@ impl<N: Naming> NodeHub<N> {
         self.hub.finish(session, channel)
     }
 
-    /// Queues a reply that brings no publications. Where the client is too slow or memory is refused, the session is closed in place
-    /// of it.
+    /// Queues a reply that brings no publications. Where the client is too slow or memory is refused, the session is closed in
+    /// place of it.
     pub fn say(&mut self, session: u32, text: String) -> Queued
         requires { IsReply (string_bytes text) }
         ensures said { result ≡ queued_in (attached_at self.new.node session) }
@@ -100,9 +100,9 @@ impl<N: Naming> NodeHub<N> {
         self.hub.say(session, text)
     }
 
-    /// Queues the reply to a history of a channel, with the pass by which it was answered. It takes no other text than one that says
-    /// what the channel's shard answered, at a point of its log that the pass has seen. Where the client is too slow or memory is
-    /// refused, the session is closed in place of it.
+    /// Queues the reply to a history of a channel, with the pass by which it was answered. It takes no other text than one that
+    /// says what the channel's shard answered, at a point of its log that the pass has seen. Where the client is too slow or
+    /// memory is refused, the session is closed in place of it.
     pub fn say_history<W: ShardWords<N>>(
         &mut self,
         words: &W,

@@ -6,7 +6,8 @@ use cf_protocol::Epoch;
 pub enum Entry<'a> {
     /// The channel's stream opens in this epoch.
     Opened(&'a str, Epoch),
-    /// A publication of the channel is accepted: its key, which may be empty, its body, and the user and the client that published it, if one did.
+    /// A publication of the channel is accepted: its key, which may be empty, its body, and the user and the client that
+    /// published it, if one did.
     Published(&'a str, &'a str, &'a str, Option<(&'a str, &'a str)>),
     /// At most so many of the channel's newest publications stay held.
     Trimmed(&'a str, usize),

@@ -1,4 +1,5 @@
--- The codes of errors and of closes. (Centrifugo's client protocol.)
+-- The codes of errors and of closes. Each is a number on the wire, beside a message or a reason of its own.
+-- (Centrifugo's client protocol.)
 use Rattle.std.specs.Prelude.{ℕ, ◌==◌, if◌then◌else◌, List, [], codes}
 use Rattle.cf_protocol.specs.declared.codes.ErrorCode.{ErrorCode}
 use Rattle.cf_protocol.specs.declared.codes.ErrorCode.TheVariants as error

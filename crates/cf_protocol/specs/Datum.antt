@@ -1,4 +1,4 @@
--- What contracts see of a publication.
+-- What contracts see of a publication. It is the compact text of its data, and by which client it was, if by one.
 use Rattle.std.specs.Prelude.{ℕ, ◌+◌, List, [], ◌∷◌, Option, refl}
 use Rattle.std.specs.Coded.{Coded, code_by, coded×, coded_list, coded_ℕ, coded_option}
 

@@ -1,4 +1,5 @@
--- What is on its way to a client, in positions and without data.
+-- What is on its way to a client, in positions and without data. Each note stands for one text, by what was published
+-- at its positions.
 use Rattle.std.specs.Prelude.{ℕ, zero, suc, ◌-◌, List, Bool, Option, Some, None, option_map, slice_get, take, drop}
 use Rattle.cf_protocol.specs.Position.{Position}
 use Rattle.cf_protocol.specs.Datum.{Datum, Placed, numbered}

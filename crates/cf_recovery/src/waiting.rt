@@ -13,10 +13,11 @@ use std::marker::Model;
 /// The most publications that are kept.
 pub const MOST_KEPT: usize = 1000;
 
-/// The publications that came to a node for a channel since a subscription was asked for: each place once, as it came first, and at
-/// most 1,000. If one more comes, or memory is refused, all are given up, and nothing is kept from then on.
+/// The publications that came to a node for a channel since a subscription was asked for: each place once, as it came first, and
+/// at most 1,000. If one more comes, or memory is refused, all are given up, and nothing is kept from then on.
 ///
-/// Centrifugo, history and recovery: publications are buffered between subscribing and the reply. The limit is this project's own.
+/// Centrifugo, history and recovery: publications are buffered between subscribing and the reply. The limit is this project's
+/// own.
 #[derive(Drop)]
 pub struct Waiting {
     epochs: Vec<Epoch>,
@@ -44,8 +45,8 @@ impl Model for Waiting {
 pub struct Released {
     /// The publications at the offsets that follow the reply's without a gap, in order.
     pub run: Vec<Publication>,
-    /// Whether something came that the run does not reach, or of another epoch, or more than is kept: the subscription then ends, and
-    /// its client asks again. (Centrifugo's client protocol: insufficient state, code 2500.)
+    /// Whether something came that the run does not reach, or of another epoch, or more than is kept: the subscription then ends,
+    /// and its client asks again. (Centrifugo's client protocol: insufficient state, code 2500.)
     pub insufficient: bool,
 }
 
@@ -74,8 +75,8 @@ impl Waiting {
 
     /// Keeps a copy of a publication of this epoch, unless one of its place is kept already.
     ///
-    /// At the 1,001st place, and if memory is refused, all that is kept is given up, and so is whatever comes later. `short` tells
-    /// the second from the first.
+    /// At the 1,001st place, and if memory is refused, all that is kept is given up, and so is whatever comes later. `short`
+    /// tells the second from the first.
     pub fn keep(&mut self, epoch: &Epoch, publication: &Publication)
         ensures kept { self.new.short ≡ self.old.short
             → self.new ≡ with_arrival (arrival epoch.now publication.now) self.old }
@@ -99,8 +100,8 @@ impl Waiting {
         }
     }
 
-    /// What is passed on after a reply that ends at a position: what is kept of its epoch from the next offset on, up to the first
-    /// that is missing. The publications are moved out. It takes no memory.
+    /// What is passed on after a reply that ends at a position: what is kept of its epoch from the next offset on, up to the
+    /// first that is missing. The publications are moved out. It takes no memory.
     ///
     /// Centrifugo, history and recovery: the buffered publications are merged with the reply's, and a gap is insufficient state.
     pub fn release(self, at: &Position) -> Released

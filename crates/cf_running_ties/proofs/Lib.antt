@@ -12,5 +12,6 @@ pub mod ShardCalls
 pub mod ShardLife
 pub mod ShardReads
 pub mod ShardTicks
+pub mod ShardsSeen
 pub mod WholeNodes
 pub mod Sources

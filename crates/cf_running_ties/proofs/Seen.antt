@@ -1,4 +1,5 @@
--- What is seen of a log that was gained entry by entry is sound.
+-- What is seen of a log is sound, if an epoch of a channel has one list there, which is short, and all can be said. So it
+-- is of a log that was gained entry by entry.
 use Rattle.std.proofs.Common.{◌≡◌, ◌≤◌, ℕ, zero, suc, ◌&&◌, ◌||◌, not, Bool, true, false, if◌then◌else◌, Option, Some}
 use Rattle.std.proofs.Common.{None, List, [], ◌∷◌, ◌++◌, length, slice_get, append-nil, append_assoc, refl, sym, ap}
 use Rattle.std.proofs.Common.{subst, arith}
@@ -111,6 +112,59 @@ placed-said ds (suc o) p h fits k = by_datum (slice_get ds o) refl k
         let below : suc o ≤ length ds = g.1 in
         subst (IsPlaced IsBody) same (record { body = g.0.0; info = g.0.1; offset = omega arith })
 
+-- ---- what makes it sound
+
+-- what has to be known of a log, of one channel
+pub record IsKnown (c : List ℕ) (log : List Entry) : Type 0 where
+  pub once : (e : List ℕ) (before : List Entry) → IsPrefix before log → epoch_in before c ≡ Some e
+      → list_in before c ≡ listed_in before c e
+  pub said : AllByRecursion CanBeSaid log
+  pub short : (e : List ℕ) (before : List Entry) → IsPrefix before log → epoch_in before c ≡ Some e
+      → length (list_in before c) ≤ max_u64
+
+module _ (c e : List ℕ) (before log : List Entry) (h : IsKnown c log) (begins : IsPrefix before log)
+    (opened : epoch_in before c ≡ Some e) where
+  said : AllByRecursion CanBeSaid before
+  said = all-front CanBeSaid before begins.0 (subst (AllByRecursion CanBeSaid) (sym begins.1) h.said)
+
+  all : AllByRecursion IsDatum (list_in before c)
+  all = subst (AllByRecursion IsDatum) (sym (h.once e before begins opened)) (listed-said c e before no_turn said tt)
+
+  abbrev there : Life
+  there = record {
+    epoch = e;
+    list = list_in before c;
+    keys = keys_in before c;
+    held = (holding_in [] before c).held;
+  }
+
+  is-there : life_in [] before c ≡ Some there
+  is-there = ap (option_map (λ (x : List ℕ). record {
+    epoch = x;
+    list = list_in before c;
+    keys = keys_in before c;
+    held = (holding_in [] before c).held;
+  })) opened
+
+  position : IsPosition (record { epoch = e; offset = length (list_in before c) })
+  position = record {
+    epoch = among-said e (epochs_in before c) (opened-said c before said)
+        (subst (WasOpened before c) is-there (was_opened [] before c));
+    offset = h.short e before begins opened;
+  }
+
+pub sound-by : (seen : List PassState) → ((c : List ℕ) → IsKnown c (log_at seen c)) → IsSound seen
+sound-by seen known = record {
+  once = λ c e before h is. (known c).once e before h is;
+  regular = λ c e p h.
+      placed-said (list_in h.before c) p.offset p (all c e h.before (log_at seen c) (known c) h.begins h.opened)
+      ((known c).short e h.before h.begins h.opened) h.placed;
+  positions = λ c e before h is. position c e before (log_at seen c) (known c) h is;
+  placed = λ c e before low count h is low-fits.
+      regular-placed (list_in before c) low count low-fits ((known c).short e before h is)
+      (All-from_recursion IsDatum (list_in before c) (all c e before (log_at seen c) (known c) h is));
+}
+
 -- ---- no epoch opens again
 
 -- in an epoch in which the channel doesn't open, nothing is listed more
@@ -163,21 +217,12 @@ module _ (cfg : Config) where
       (subst (λ (z : List ℕ). is_among y (epochs_in before z) ≡ false) ((bytes_eq-Decides q c).0 about)
       (drawn before q y may.0))
 
-  -- ---- at a point of a log
+  -- ---- at a point of a log that was gained entry by entry
 
   module _ (c e : List ℕ) (before log : List Entry) (h : IsGood cfg log) (begins : IsPrefix before log)
       (opened : epoch_in before c ≡ Some e) where
     gained : MayAll cfg [] before
     gained = front before begins.0 [] (subst (MayAll cfg []) (sym begins.1) h.gained)
-
-    said : AllByRecursion CanBeSaid before
-    said = all-front CanBeSaid before begins.0 (subst (AllByRecursion CanBeSaid) (sym begins.1) h.said)
-
-    once : list_in before c ≡ listed_in before c e
-    once = once_of c e before log (opens-fresh c log h.gained) begins opened
-
-    all : AllByRecursion IsDatum (list_in before c)
-    all = subst (AllByRecursion IsDatum) (sym once) (listed-said c e before no_turn said tt)
 
     abbrev life : Life
     life = record {
@@ -201,21 +246,12 @@ module _ (cfg : Config) where
         subst (λ (o : Option Life). IfSome o (λ l. length l.list ≤ last_offset)) lives (fits cfg before gained c) in
         omega arith
 
-    position : IsPosition (record { epoch = e; offset = length (list_in before c) })
-    position = record {
-      epoch = among-said e (epochs_in before c) (opened-said c before said)
-          (subst (WasOpened before c) lives (was_opened cfg.namespaces before c));
-      offset = short;
-    }
+  known : (c : List ℕ) (log : List Entry) → IsGood cfg log → IsKnown c log
+  known c log h = record {
+    once = λ e before begins opened. once_of c e before log (opens-fresh c log h.gained) begins opened;
+    said = h.said;
+    short = λ e before begins opened. short c e before log h begins opened;
+  }
 
   pub sound : (seen : List PassState) → ((c : List ℕ) → IsGood cfg (log_at seen c)) → IsSound seen
-  sound seen good = record {
-    once = λ c e before h is. once c e before (log_at seen c) (good c) h is;
-    regular = λ c e p h.
-        placed-said (list_in h.before c) p.offset p (all c e h.before (log_at seen c) (good c) h.begins h.opened)
-        (short c e h.before (log_at seen c) (good c) h.begins h.opened) h.placed;
-    positions = λ c e before h is. position c e before (log_at seen c) (good c) h is;
-    placed = λ c e before low count h is low-fits.
-        regular-placed (list_in before c) low count low-fits (short c e before (log_at seen c) (good c) h is)
-        (All-from_recursion IsDatum (list_in before c) (all c e before (log_at seen c) (good c) h is));
-  }
+  sound seen good = sound-by seen (λ c. known c (log_at seen c) (good c))

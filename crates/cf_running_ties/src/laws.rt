@@ -25,6 +25,7 @@ ghost use Rattle.cf_shard.specs.LogAnswer.{IsHistoryAnswer, IsReadAnswer};
 ghost use Rattle.cf_shard.specs.Opening.{GivesNoneTwice, StaysFresh};
 ghost use Rattle.cf_shard.specs.Shard.{DrawsFor, Lent};
 ghost use Rattle.cf_shard.specs.ShardLog.{entries_of_forget, entries_of_publish, entries_of_size, entries_of_tick, entries_of_trim, entries_of_use};
+ghost use Rattle.cf_shard.specs.Shards.{number_of};
 ghost use Rattle.cf_machine.specs.Config.{Config};
 ghost use Rattle.cf_machine.specs.ReadBack.{IsDatum};
 ghost use Rattle.cf_running.specs.Server.{Delivers, Offers, Publishes, Section, Server, Site, server_after, at_number, log_of, ran, start};
@@ -34,7 +35,7 @@ ghost use Rattle.cf_running_ties.specs.Heard.{AreHeard, SayTheirNotes};
 ghost use Rattle.cf_running_ties.specs.Links.{AddsNothing, IsAnswered, IsFirst, IsNumbered, Lines, OffersCopies, Waits, is_at_link};
 ghost use Rattle.cf_running_ties.specs.Reads.{AllReadBack, IsListing, IsReading, SectionHas};
 ghost use Rattle.cf_node_hub.specs.Seen.{IsSound, listed_in, log_at};
-ghost use Rattle.cf_running_ties.specs.Seen.{IsGood};
+ghost use Rattle.cf_running_ties.specs.Seen.{IsGood, IsSeenOf};
 ghost use Rattle.cf_running_ties.specs.ShardCalls.{IsDrawn, IsGained, IsNotLast, MayAll};
 ghost use Rattle.cf_running_ties.specs.ShardLife.{AreMade, Call};
 
@@ -191,14 +192,24 @@ pub fn what_is_read_is_listed()
     what_is_said_stays();
 }
 
-/// What a node has seen of the shards' logs is sound, if each is gained entry by entry and what it has can be said: a stream of an
-/// epoch has all that was ever published to its channel in that epoch, and that can be read back. So what the type of a node's
+/// What a node has seen of the shards' logs is sound, if each is gained entry by entry and what it has can be said: a stream of
+/// an epoch has all that was ever published to its channel in that epoch, and that can be read back. So what the type of a node's
 /// hub keeps, that each session says only what stands in what was seen, holds without a premise for such logs, as
 /// `drawn_epochs_are_new` has them.
 pub fn what_is_seen_is_sound()
     ensures { (config : Config) (seen : List PassState)
         → ((channel : List ℕ) → IsGood config (log_at seen channel)) → IsSound seen }
 {}
+
+/// The same by what the shards' types keep, whatever is known of how their logs came to be: what a node has seen is sound, if it is of
+/// each log a beginning, no epoch opens again there (`StaysFresh`, of a source of `cf_epochs`), and what it has can be said.
+pub fn what_is_seen_of_shards_is_sound()
+    ensures { (shards : ℕ → Lent Source) (seen : List PassState)
+        → ((channel : List ℕ) → IsSeenOf (shards (number_of channel)) (log_at seen channel))
+        → IsSound seen }
+{
+    told_apart();
+}
 
 /// What a session makes of a text can be said again: each command that is answered has an id, the data of a
 /// publish can be read back, and so can the name that a hub gives a client; and the replies that bring

@@ -3,8 +3,8 @@ use cf_presence::Stats;
 use cf_protocol::{CloseCode, ErrorCode, Info, Position};
 use std::collections::BTreeMap;
 
-/// What a client publishes, where, and who it is: one value from the session to the broker, so that no two of its texts change places
-/// on the way.
+/// What a client publishes, where, and who it is: one value from the session to the broker, so that no two of its texts change
+/// places on the way.
 #[derive(Drop)]
 pub struct Publish {
     /// The channel's name.
@@ -46,8 +46,8 @@ pub enum Action {
     },
     /// This is published.
     Publish(Publish),
-    /// The publications that the channel's stream holds, after `since` where it is there, are listed in the reply to the command of
-    /// this id, which the node gives.
+    /// The publications that the channel's stream holds, after `since` where it is there, are listed in the reply to the command
+    /// of this id, which the node gives.
     History {
         channel: String,
         id: u32,

@@ -11,9 +11,9 @@ use cf_presence::Stats;
 use cf_protocol::{CloseCode, ErrorCode, Position};
 use std::collections::BTreeMap;
 
-/// What carries out the actions of one session: a hub, the streams, presence, and what the client is sent. It has a method for each
-/// action; where a call is refused it answers the error code that the command's reply has. A stream is asked for only where its
-/// namespace is set up.
+/// What carries out the actions of one session: a hub, the streams, presence, and what the client is sent. It has a method for
+/// each action; where a call is refused it answers the error code that the command's reply has. A stream is asked for only where
+/// its namespace is set up.
 pub trait CommandExecutor {
     ghost use Rattle.std.specs.Prelude.{Option, Bool};
     ghost use Rattle.cf_protocol.specs.Settings.{NamespaceTable};
@@ -70,8 +70,8 @@ pub trait CommandExecutor {
         ensures does { Gives does self.old (asked_publish publish) (Answer.Publish result) self.new }
         ensures namespaces { namespaces self.new ≡ namespaces self.old };
 
-    /// The channel's stream is listed, after `since` where it is there, and the reply with its publications is given for the command
-    /// of this id.
+    /// The channel's stream is listed, after `since` where it is there, and the reply with its publications is given for the
+    /// command of this id.
     fn history(
         &mut self,
         channel: &str,

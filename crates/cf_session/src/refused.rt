@@ -8,8 +8,8 @@ use cf_presence::PresenceError;
 use cf_protocol::ErrorCode;
 use cf_stream::StreamRefusal;
 
-/// The error code with which a reply says that the hub refused a call: 105 where the session has the channel already, 106 where it or
-/// the node has as many as it may, else 100.
+/// The error code with which a reply says that the hub refused a call: 105 where the session has the channel already, 106 where
+/// it or the node has as many as it may, else 100.
 pub fn hub_error(refusal: &HubRefusal) -> ErrorCode
     ensures { result ≡ refusal_code (of_hub refusal.now) }
 {
@@ -21,7 +21,8 @@ pub fn hub_error(refusal: &HubRefusal) -> ErrorCode
     }
 }
 
-/// The error code with which a reply says that the streams refused a call: 106 at the last offset, 112 for another epoch, else 100.
+/// The error code with which a reply says that the streams refused a call: 106 at the last offset, 112 for another epoch, else
+/// 100.
 pub fn stream_error(refusal: &StreamRefusal) -> ErrorCode
     ensures { result ≡ refusal_code (of_stream refusal.now) }
 {

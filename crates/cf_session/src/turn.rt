@@ -26,9 +26,9 @@ pub fn hear_text(session: &mut Session<'_>, text: &str)
     session.on_text(text);
 }
 
-/// Carries out what is under way, until the session is idle, the node has closed it, or the budget is spent. Whether the session is
-/// idle or closed. Before each action the node is asked whether the session is closed, and a unit has to be left; so a call with
-/// units left does at least one action, or is done.
+/// Carries out what is under way, until the session is idle, the node has closed it, or the budget is spent. Whether the session
+/// is idle or closed. Before each action the node is asked whether the session is closed, and a unit has to be left; so a call
+/// with units left does at least one action, or is done.
 pub fn carry_on<N: CommandExecutor>(
     session: &mut Session<'_>,
     node: &mut N,

@@ -1,6 +1,7 @@
 //! A channel's stream: an epoch, a top offset and the last publications. And the streams of all channels, by their names.
 //!
-//! The rules are those of Centrifugo's document on history and recovery; limits and the exact rule of recovery are this project's own.
+//! The rules are those of Centrifugo's document on history and recovery; limits and the exact rule of recovery are this project's
+//! own.
 #![tactic(auto)]
 
 mod answer;

@@ -14,7 +14,8 @@ pub enum StreamRefusal {
     /// A history after a position whose epoch isn't the stream's, or if the channel has no stream.
     #[error("the position is of another epoch")]
     WrongEpoch,
-    /// No stream stood, and no epoch was drawn for a new one. This alone comes after want of memory, since it takes the draw to know.
+    /// No stream stood, and no epoch was drawn for a new one. This alone comes after want of memory, since it takes the draw to
+    /// know.
     #[error("there is no epoch for a new stream")]
     NoEpoch,
     /// Memory was refused.

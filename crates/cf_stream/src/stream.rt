@@ -37,8 +37,9 @@ pub enum TickOutcome {
     Forgotten,
 }
 
-/// The last publications of one epoch of a channel, at most `size`, how many were published in it, and the last hundred keys. They
-/// lie in a block of their own, so that a table of many channels moves words, and keeps no room for streams that it doesn't have.
+/// The last publications of one epoch of a channel, at most `size`, how many were published in it, and the last hundred keys.
+/// They lie in a block of their own, so that a table of many channels moves words, and keeps no room for streams that it doesn't
+/// have.
 #[derive(Drop)]
 pub struct Stream {
     inner: Box<Inner>,

@@ -29,8 +29,8 @@ use std::marker::Model;
 /// The streams of the channels that have one. A channel's namespace sets how many publications it holds, and for how long.
 ///
 /// The clauses of `publish`, `read` and `history` have the same names: what a call `makes` of the streams, its `answer` off them,
-/// what becomes of the `epochs`, its `refusals`, what a refused one leaves (`err`), its entries in a `log`, and its answer and its
-/// change in the endless `lists`.
+/// what becomes of the `epochs`, its `refusals`, what a refused one leaves (`err`), its entries in a `log`, and its answer and
+/// its change in the endless `lists`.
 pub struct Streams {
     namespaces: Namespaces,
     map: BTreeMap<String, Stream>,
@@ -95,8 +95,8 @@ impl Streams {
         self.namespaces.contains(name)
     }
 
-    /// Where the publication stands that a publish to a channel with this key repeats, if it repeats one. It takes no memory, opens
-    /// nothing and is no use.
+    /// Where the publication stands that a publish to a channel with this key repeats, if it repeats one. It takes no memory,
+    /// opens nothing and is no use.
     pub fn repeat_of(&self, channel: &str, key: &str) -> Option<Position>
         ensures repeat { result ≡ repeat_at (stream_of self.now channel.now) key.now }
         ensures list_answer { RepeatsAt self.now channel.now key.now result }
@@ -111,8 +111,8 @@ impl Streams {
     }
 
     /// Publishes to a channel at a moment in seconds, and answers the position. The channel's stream opens if there is none.
-    /// A publish whose key is among the last hundred of the stream is a repeat: it adds nothing, and is answered with the position
-    /// of the publication that it repeats. The empty key is none.
+    /// A publish whose key is among the last hundred of the stream is a repeat: it adds nothing, and is answered with the
+    /// position of the publication that it repeats. The empty key is none.
     pub fn publish<E: Epochs>(
         &mut self,
         epochs: &mut E,
@@ -161,7 +161,8 @@ impl Streams {
         }
     }
 
-    /// Sets how many publications the streams of a namespace may hold. Of those that hold more the newest stay. It takes no memory.
+    /// Sets how many publications the streams of a namespace may hold. Of those that hold more the newest stay. It takes no
+    /// memory.
     pub fn set_size(&mut self, name: &str, size: usize)
         requires set_up { IsSome (entry_at self.old.namespaces name.now) }
         requires sized { (1 ≤ size) × (size ≤ LARGEST_SIZE) }
@@ -451,8 +452,8 @@ fn trim_at(map: &mut BTreeMap<String, Stream>, channel: &str, count: usize)
     }
 }
 
-/// A moment before which nothing is due, once a stream was used now that holds what it holds for so many seconds, if nothing was due
-/// before `quiet_until`.
+/// A moment before which nothing is due, once a stream was used now that holds what it holds for so many seconds, if nothing was
+/// due before `quiet_until`.
 fn quiet_after_use(quiet_until: u64, now: u64, seconds: u64) -> u64
     ensures before { result ≤ quiet_until }
     ensures used { result ≤ now + UNUSED_SECONDS }

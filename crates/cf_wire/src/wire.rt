@@ -126,9 +126,10 @@ fn code_of(frame: &Option<CloseFrame>) -> u16
 
 impl<S: Read + Write + Drop> Wire<S> {
     /// Reads what the peer sent, at most 64 messages and none once 65,536 bytes of text were heard, and sends what the desk
-    /// gives: before the first, after each, and at the end. While the desk isn't ready nothing is read. A text is heard by the desk, a ping or pong is passed over, and a binary message, or one of more than 131,072
-    /// bytes, closes with 3501. If what came is no frame, or no UTF-8, the turn ends as `StreamFault`, and the peer is told 1002 or 1007.
-    /// Of a spent wire each turn ends as the one did by which it was.
+    /// gives: before the first, after each, and at the end. While the desk isn't ready nothing is read. A text is heard by the
+    /// desk, a ping or pong is passed over, and a binary message, or one of more than 131,072 bytes, closes with 3501. If what
+    /// came is no frame, or no UTF-8, the turn ends as `StreamFault`, and the peer is told 1002 or 1007. Of a spent wire each
+    /// turn ends as the one did by which it was.
     pub fn turn<D: Desk>(&mut self, desk: &mut D) -> TurnEnd
         ensures turns { is_over self.old.stage ≡ false →
             Turns D.hears D.gives D.ready S.remaining S.contents result

@@ -124,7 +124,8 @@ impl Crowds {
         Some(u64::from(times))
     }
 
-    /// Delivers so many publications to each crowd. Says how many pushes there were, and how many nanoseconds the deliveries took.
+    /// Delivers so many publications to each crowd. Says how many pushes there were, and how many nanoseconds the deliveries
+    /// took.
     pub(crate) fn deliver(&mut self, rt: &HostRuntime, times: u32) -> io::Result<(u64, u128)> {
         let (mut pushes, mut spent) = (0_u64, 0_u128);
         let mut publication = Publication {

@@ -29,8 +29,8 @@ impl Rows {
         }
     }
 
-    /// `fill` and `fill_plain`, `walk CHANNEL` and `search CHANNEL`, `detach SESSION` and `retain SESSION`, and `remove STEP`. Says
-    /// how many rows were put in or went, or the sum of a channel's sessions.
+    /// `fill` and `fill_plain`, `walk CHANNEL` and `search CHANNEL`, `detach SESSION` and `retain SESSION`, and `remove STEP`.
+    /// Says how many rows were put in or went, or the sum of a channel's sessions.
     pub(crate) fn call(&mut self, name: &str, (passed, _, _): (u32, u32, u32)) -> Option<u64> {
         match name {
             "fill" => self.fill(),

@@ -2,8 +2,8 @@
 use cf_protocol::{Outgoing, Pushed, read_commands, read_replies, write_publication, write_reply};
 use std::alloc::Global;
 
-/// `commands TIMES TEXT` and `replies TIMES TEXT` read the text, and `write TIMES TEXT` writes its first reply or push. Says how many
-/// commands or replies were read, or bytes written, in all.
+/// `commands TIMES TEXT` and `replies TIMES TEXT` read the text, and `write TIMES TEXT` writes its first reply or push. Says how
+/// many commands or replies were read, or bytes written, in all.
 pub(crate) fn call(alloc: Global, name: &str, passed: &str) -> Option<u64> {
     let (times, text) = passed.split_once(' ')?;
     let times = times.parse::<u32>().ok()?;

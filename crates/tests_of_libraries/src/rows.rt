@@ -1,13 +1,14 @@
 //! Rows: each says what is done and, behind an arrow, what comes of it.
 //!
-//! A table is a text, and each line of it a row: `DONE => COMES`. DONE begins with the word of a call, behind which stands what it is
-//! passed; `; ` parts calls, and what comes of them. COMES is what the answer is shown as, or the words in which the call was refused:
-//! `nothing` when nothing comes, and `itself` for what DONE passes. In both, `*COUNT*PIECE*` is that many pieces, with a number from
-//! 1,000 on in the place of each `#`, and `␊` is a line feed. An empty line is no row, nor is one that begins with `//`, a remark; an
-//! empty line and `# TITLE: SETTING` begin a part, which is played on a subject of its own.
+//! A table is a text, and each line of it a row: `DONE => COMES`. DONE begins with the word of a call, behind which stands what
+//! it is passed; `; ` parts calls, and what comes of them. COMES is what the answer is shown as, or the words in which the call
+//! was refused: `nothing` when nothing comes, and `itself` for what DONE passes. In both, `*COUNT*PIECE*` is that many pieces,
+//! with a number from 1,000 on in the place of each `#`, and `␊` is a line feed. An empty line is no row, nor is one that begins
+//! with `//`, a remark; an empty line and `# TITLE: SETTING` begin a part, which is played on a subject of its own.
 //!
-//! A row that isn't so is told as `texts/json/grammar row 31 (line 54): wanted NotJson(3), got NotJson(4)`, the line being the table's;
-//! so is one without an arrow, or with a word that is no number. The rows behind it are played, and the test fails at the table's end.
+//! A row that isn't so is told as `texts/json/grammar row 31 (line 54): wanted NotJson(3), got NotJson(4)`, the line being the
+//! table's; so is one without an arrow, or with a word that is no number. The rows behind it are played, and the test fails at
+//! the table's end.
 use std::alloc::Global;
 use std::fmt::{Display, Write};
 use std::process::Abort;

@@ -13,7 +13,8 @@ use crate::read::outgoing::read_outgoing;
 use cf_json::split_frame;
 use std::alloc::Global;
 
-/// The commands of a frame, in order. `Bad` is a text that is no frame, or in which a value is no command or nests deeper than 64.
+/// The commands of a frame, in order. `Bad` is a text that is no frame, or in which a value is no command or nests deeper than
+/// 64.
 pub fn read_commands(alloc: Global, text: &str) -> Result<Vec<Command>, ReadFault>
     ensures found { IfOk result (λ cs. IsCommands text.now (map shown_command cs.items)) }
     ensures only { IfOk result (λ cs. (ks : List request.Command)

@@ -129,7 +129,8 @@ fn read_present(alloc: Global, members: &Members<'_>) -> Result<Outcome, ReadFau
     Ok(Outcome::Present { users })
 }
 
-/// The user of each of these clients, by the client's id, which is the key of its info. One whose info is `null` counts as absent.
+/// The user of each of these clients, by the client's id, which is the key of its info. One whose info is `null` counts as
+/// absent.
 fn read_users(alloc: Global, clients: &Members<'_>) -> Result<BTreeMap<String, String>, ReadFault>
     requires { AreMembers clients.now }
     ensures { (t : Tree) (fs : Fields) → as_object t ≡ Some fs

@@ -17,8 +17,9 @@ const BAD_REQUEST: &str =
 const UPGRADE_REQUIRED: &str =
     "HTTP/1.1 426 Upgrade Required\r\nUpgrade: websocket\r\nSec-WebSocket-Version: 13\r\nContent-Type: text/plain\r\nContent-Length: 17\r\nConnection: close, Upgrade\r\n\r\nupgrade required\n";
 
-/// The lines of a head, each before a `;`, and how it is answered. A line of one letter stands for one of the example of RFC 6455,
-/// section 1.3. A health that is asked for is answered by whoever is asked; a `fault` is of the stream, which ends before the head does.
+/// The lines of a head, each before a `;`, and how it is answered. A line of one letter stands for one of the example of RFC
+/// 6455, section 1.3. A health that is asked for is answered by whoever is asked; a `fault` is of the stream, which ends before
+/// the head does.
 const ROWS: &str = "\
 GET /chat HTTP/1.1;H;U;C;K;V; => open
 GET /health HTTP/1.1;H;U;C;K;V; => open

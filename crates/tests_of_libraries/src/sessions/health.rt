@@ -13,8 +13,8 @@ const STUCK: &str =
 const NOT_ALLOWED: &str =
     "HTTP/1.1 405 Method Not Allowed\r\nAllow: GET, HEAD\r\nContent-Type: text/plain\r\nContent-Length: 19\r\nConnection: close\r\n\r\nmethod not allowed\n";
 
-/// The lines of a head and what stands behind them, as in the rows of a handshake, and what a node answers that is well, and one that
-/// isn't: `-` if it is none of these.
+/// The lines of a head and what stands behind them, as in the rows of a handshake, and what a node answers that is well, and one
+/// that isn't: `-` if it is none of these.
 const ROWS: &str = "\
 HEAD /health HTTP/1.1;H; => well; stuck
 HEAD /health HTTP/1.0; => well; stuck

@@ -1,9 +1,10 @@
 //! A hub's sessions, and what is said to their clients, as rows of steps and of what comes of them.
 //!
-//! `attach` gives the number of a session; `begin N C` begins with a channel, `read N C` and `finish N C` go on, and `leave N C` ends
-//! it; `on N C` asks whether it is finished. `deliver O` brings publication O of `news`; `check N C O` looks whether a stream that
-//! stands at O is followed. `say N TEXT COUNT` says a text so often; `take N` is what the client gets next; `turn` is whose turn it
-//! is. `tick T` and `pong N` are done at their moment, and so are `close N` and `detach N`, which answers how many channels went.
+//! `attach` gives the number of a session; `begin N C` begins with a channel, `read N C` and `finish N C` go on, and `leave N C`
+//! ends it; `on N C` asks whether it is finished. `deliver O` brings publication O of `news`; `check N C O` looks whether a
+//! stream that stands at O is followed. `say N TEXT COUNT` says a text so often; `take N` is what the client gets next; `turn` is
+//! whose turn it is. `tick T` and `pong N` are done at their moment, and so are `close N` and `detach N`, which answers how many
+//! channels went.
 use crate::publications::place;
 use crate::rows::{Subject, Table, Told, call_of};
 use cf_hub::Hub;

@@ -1,5 +1,5 @@
-//! What sessions say and ask for, against a node that refuses nothing but a publish to `full`, whose stream is at its last offset, and
-//! the read of `spent`, for which there is no epoch.
+//! What sessions say and ask for, against a node that refuses nothing but a publish to `full`, whose stream is at its last
+//! offset, and the read of `spent`, for which there is no epoch.
 ghost use Rattle.std.specs.Prelude.{◌≡◌, IfSome};
 ghost use Rattle.cf_session.specs.Shown.{answer_kind};
 
@@ -255,8 +255,8 @@ fn talk(rt: HostRuntime) {
 }
 
 /// Behind what a text does otherwise stands what it may do when memory is refused: a connect closes, the other commands are
-/// answered 100, at once or after the call, and each text may close as it is read. A subscribe asks for nothing then, and the reply
-/// to a history is its node's.
+/// answered 100, at once or after the call, and each text may close as it is read. A subscribe asks for nothing then, and the
+/// reply to a history is its node's.
 const OR_GIVEN_UP: &str =
     r#"{"id":1,"connect":{}} => attach  / {"connect":{"client":"0-1-1","ping":25,"pong":true,"version":"1.0.0"},"id":1} | close 3004 internal server error | attach  / close 3004 internal server error
 {"id":2,"subscribe":{"channel":"news"}} => begin 2 / read / finish | close 3004 internal server error | {"error":{"code":100,"message":"internal server error","temporary":true},"id":2}
@@ -272,8 +272,8 @@ fn is_one_of(done: &str, allowed: &str, was_refused: bool) -> bool {
     }
 }
 
-/// A session does what the row says, or gives its command up if memory is refused to it, and then is idle. Whether it goes on: not
-/// if it is closed, or there was no memory to answer its call or to tell what it did.
+/// A session does what the row says, or gives its command up if memory is refused to it, and then is idle. Whether it goes on:
+/// not if it is closed, or there was no memory to answer its call or to tell what it did.
 fn goes_on(alloc: Global, session: &mut Session<'_>, table: &mut Table<'_>, row: &str) -> bool {
     let (text, allowed) = row.split_once(" => ").unwrap_or((row, "no arrow"));
     let was_short = session.short();

@@ -1,9 +1,9 @@
 //! Wires over streams in memory, under a hub's session, as rows of what is done and of what comes of it.
 //!
-//! Behind a part's title stand the bytes that come with the request. `in BYTES` come, and `out BYTES` are written next: `COUNT WORD ..`,
-//! as often as counted, each word a byte in two digits or a text behind `'`. `turn` gives how it ends, and how many bytes of text were
-//! heard by then; `say COUNT` says so long a text; `unread` and `unflushed` tell what waits; the stream is `blocked` or not, and the
-//! desk `busy` or not.
+//! Behind a part's title stand the bytes that come with the request. `in BYTES` come, and `out BYTES` are written next:
+//! `COUNT WORD ..`, as often as counted, each word a byte in two digits or a text behind `'`. `turn` gives how it ends, and how
+//! many bytes of text were heard by then; `say COUNT` says so long a text; `unread` and `unflushed` tell what waits; the stream
+//! is `blocked` or not, and the desk `busy` or not.
 ghost use Rattle.std.specs.Prelude.{not};
 
 use super::session::{said_to, tables};
@@ -303,8 +303,8 @@ turn => More 64
 turn => Idle 65
 out 65 81 01 'a => written";
 
-/// A text of up to 131,072 bytes is heard, and one byte more closes. A turn reads nothing more once 65,536 bytes were heard. A client
-/// that takes nothing is closed once 1,048,576 bytes wait for it.
+/// A text of up to 131,072 bytes is heard, and one byte more closes. A turn reads nothing more once 65,536 bytes were heard. A
+/// client that takes nothing is closed once 1,048,576 bytes wait for it.
 const LONG_TEXTS: &str = "\
 # 65,537 bytes: 1 81 ff 00 00 00 00 00 01 00 01 00 00 00 00
 in 65537 'x => nothing

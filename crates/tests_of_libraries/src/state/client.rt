@@ -1,5 +1,5 @@
-//! Whole conversations of a client: behind the arrow of a call stands its text, and behind that of a text what the application gets
-//! from it.
+//! Whole conversations of a client: behind the arrow of a call stands its text, and behind that of a text what the application
+//! gets from it.
 use crate::rows::{Subject, Table, Told, call_of};
 use cf_client::{AppEvent, Client, ClientFault};
 use cf_protocol::Position;

@@ -15,8 +15,8 @@ fn kept(alloc: Global, last: u32) -> Option<Waiting> {
     Some(waiting)
 }
 
-/// How many are released at the start of the epoch, if they stand in order from offset 1 on, and whether none is missing. None: there
-/// was no memory, or they don't stand so.
+/// How many are released at the start of the epoch, if they stand in order from offset 1 on, and whether none is missing. None:
+/// there was no memory, or they don't stand so.
 fn released(alloc: Global, last: u32) -> Option<(u64, bool)> {
     let waiting = kept(alloc, last)?;
     if waiting.short() {

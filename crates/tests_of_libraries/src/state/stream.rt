@@ -1,8 +1,8 @@
 //! One stream, by rows.
 //!
-//! `publish COUNT` publishes so many at moment 0, and gives the last one's offset; `keys COUNT` does under as many keys, `k1` the first;
-//! `key K` is one, and `again` says that it repeats one. `recover O` and `list LIMIT` give how many come, and from which offset to which.
-//! `tick NOW SECONDS` is one; `trim`, `resize` and `held` give how many are held then.
+//! `publish COUNT` publishes so many at moment 0, and gives the last one's offset; `keys COUNT` does under as many keys, `k1` the
+//! first; `key K` is one, and `again` says that it repeats one. `recover O` and `list LIMIT` give how many come, and from which
+//! offset to which. `tick NOW SECONDS` is one; `trim`, `resize` and `held` give how many are held then.
 use crate::publications::ann;
 use crate::rows::{Subject, Table, Told, call_of};
 use cf_protocol::{Epoch, Position, Publication};
@@ -161,7 +161,8 @@ impl Subject for Stream {
     }
 }
 
-/// The rows of a part are played on a new stream, whose size, and how many offsets it has given, stand behind the colon of its title.
+/// The rows of a part are played on a new stream, whose size, and how many offsets it has given, stand behind the colon of its
+/// title.
 fn play(rt: &impl Abort, alloc: Global, table: &mut Table<'_>, part: &str) {
     let (title, _) = part.split_once('\n').unwrap_or((part, ""));
     let (_, setting) = title.split_once(": ").unwrap_or((title, ""));

@@ -47,8 +47,8 @@ fn count(streams: &mut Streams, name: &str, channel: &str) -> Option<usize> {
     }
 }
 
-/// Whether a channel opens by a history, another by a read, and this one by a publish; and whether it takes a thousand empty bodies, and
-/// gives the last 300 and the first.
+/// Whether a channel opens by a history, another by a read, and this one by a publish; and whether it takes a thousand empty
+/// bodies, and gives the last 300 and the first.
 fn takes_and_gives(alloc: Global, streams: &mut Streams, channel: &str) -> bool {
     if count(streams, "list", "a") != Some(0) || count(streams, "read", "b") != Some(0) {
         return false;

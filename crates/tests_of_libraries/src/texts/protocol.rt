@@ -7,8 +7,8 @@ use crate::rows::{Subject, Told, call_of};
 use cf_protocol::{read_commands, read_replies, write_command, write_reply};
 use std::alloc::Global;
 
-/// Frames. `commands FRAME` comes from a client, and gives its commands as they are written again, one behind another; `replies FRAME`
-/// gives the same of the server's replies and pushes.
+/// Frames. `commands FRAME` comes from a client, and gives its commands as they are written again, one behind another;
+/// `replies FRAME` gives the same of the server's replies and pushes.
 #[derive(Drop)]
 struct Frames;
 

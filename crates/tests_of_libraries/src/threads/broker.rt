@@ -1,10 +1,10 @@
 //! The broker's calls, as rows of what is done and what comes of it: on one thread, and on two.
 //!
 //! A row is a call on a channel by passes of our own, as `calls` has it, and behind an arrow what comes of it, if it answers
-//! anything. `they CALL` is one by passes that were lent to them at the beginning; `both CALL | CALL` are two at once, the second by
-//! them on a thread of its own; `join C` brings their pass of a channel's shard to ours, and by `meet C` each sees what the other has.
-//! `at NOW` is the moment of our calls from then on. `receive I` is what comes next over the link to node I, `lost I` how much that
-//! node lost, and `crowded I` whether one is behind: the link to node 0 has one place, and that to node 1 twenty.
+//! anything. `they CALL` is one by passes that were lent to them at the beginning; `both CALL | CALL` are two at once, the second
+//! by them on a thread of its own; `join C` brings their pass of a channel's shard to ours, and by `meet C` each sees what the
+//! other has. `at NOW` is the moment of our calls from then on. `receive I` is what comes next over the link to node I, `lost I`
+//! how much that node lost, and `crowded I` whether one is behind: the link to node 0 has one place, and that to node 1 twenty.
 mod calls;
 mod stage;
 
@@ -145,8 +145,8 @@ position news => 100, 102
 # two_shards: each thread draws its epoch while the other holds its shard
 both publish news 1 | publish b 1 => aaaa 1 | aaaa 1"#;
 
-/// What links bring and lose, who is there, and the moments that are handed on; passes that are handed over and joined, a size that is
-/// set while another thread publishes, and two shards at once.
+/// What links bring and lose, who is there, and the moments that are handed on; passes that are handed over and joined, a size
+/// that is set while another thread publishes, and two shards at once.
 #[test]
 fn parts_are_so(rt: HostRuntime) {
     let namespaces = read_namespaces(rt.alloc(), "=100,100,phs").expect(&rt, "namespaces");

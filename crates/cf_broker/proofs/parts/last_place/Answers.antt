@@ -1,3 +1,4 @@
+-- The last of the words that are left is the one of this shard's number.
 use Rattle.std.proofs.Common.{rules, ap, ◌∙◌}
 use Rattle.cf_order.specs.Passes.{OwnerState}
 use Rattle.cf_broker.proofs.Numbers.{last_name, names_some}

@@ -1,3 +1,4 @@
+-- The fields of one taking, each by what a call promised: how the wire stood, what was lent, taken and given.
 use Rattle.std.proofs.Common.{Bool, ap, subst}
 use Rattle.cf_node_hub.specs.Told.{Knowing}
 use Rattle.cf_dispatch.proofs.batch.take_at.Goals as goal

@@ -1,3 +1,5 @@
+-- A loop over turns: what a text led to so far, each turn goes on with, until the script is over or the node has
+-- closed the session.
 use Rattle.std.proofs.Common.{◌∙◌, refl, sym}
 use Rattle.cf_session.specs.Standing.{tables_of, progress_of, met_refused_memory}
 use Rattle.cf_session.proofs.Playing.{done_ends, goes_first, goes_on, serves_gone, still_long}

@@ -1,3 +1,4 @@
+-- A loop over actions: where the script has led so far, each step leads on from there, and its work is less.
 use Rattle.std.proofs.Common.{◌∙◌, ◌<◌, ◌||◌, Bool, ap, sym, refl, inl, inr, arith}
 use Rattle.cf_session.specs.Standing.{progress_of, is_idle, met_refused_memory, work_of}
 use Rattle.cf_session.specs.Turn.{rests, units_left}

@@ -1,3 +1,4 @@
+-- One act carried out, and its answer handed to the session: both are one step of the script.
 use Rattle.std.proofs.Common.{◌≡◌, ◌∙◌, Some, sym}
 use Rattle.cf_session.specs.Shown.{shown_action, shown_answer, answer_kind}
 use Rattle.cf_session.specs.Standing.{progress_of, met_refused_memory, refusals}

@@ -1,3 +1,4 @@
+-- The script of a text is under way once the session has heard it, if no memory was refused to it.
 use Rattle.std.proofs.Common.{sym, subst}
 use Rattle.cf_session.specs.CommandScripts.{Tables}
 use Rattle.cf_session.specs.Standing.{tables_of, progress_of, met_refused_memory, refusals}

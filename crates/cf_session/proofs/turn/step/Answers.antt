@@ -1,3 +1,5 @@
+-- One action: what the session's next action says of its act, the node is asked for, and the way from there is the
+-- script's (lemmas of Playing).
 use Rattle.std.proofs.Common.{◌≡◌, ◌∙◌, ◌-◌, ℕ, false, Option, Some, None, option_map, sym, ap, subst}
 use Rattle.cf_protocol.specs.Settings.{NamespaceTable}
 use Rattle.cf_session.specs.CommandScripts.{Tables}

@@ -1,3 +1,4 @@
+-- What was written so far is the beginning of the bytes, and each write adds what comes next of them.
 use Rattle.std.proofs.Common.{◌-◌, ◌++◌, length, take, drop, sym, ap, subst, ◌∙◌, arith, length-take}
 use lib.Seq.{take-add, take-take}
 use Rattle.std.specs.Io.KnownBytes.{Appends}

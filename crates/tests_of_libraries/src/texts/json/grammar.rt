@@ -1,7 +1,7 @@
 //! Texts by the rules of RFC 8259, sections 2 to 7, each with its answer by hand: values and frames, and texts that are none.
 //!
-//! `scan TEXT` gives the span of a text's one value, `FROM TO` in bytes, and `split_frame TEXT` those of a frame's values. A text that is
-//! none is refused at the first byte at which what was read so far can't go on, or at the text's end.
+//! `scan TEXT` gives the span of a text's one value, `FROM TO` in bytes, and `split_frame TEXT` those of a frame's values. A text
+//! that is none is refused at the first byte at which what was read so far can't go on, or at the text's end.
 use super::vectors::Calls;
 use crate::rows::are_so;
 

@@ -1,5 +1,5 @@
-//! Members, items, numbers, strings (RFC 8259, section 7), compact texts and depths, with answers by hand; each call at its largest
-//! size, with ample memory; and what is said of each fault.
+//! Members, items, numbers, strings (RFC 8259, section 7), compact texts and depths, with answers by hand; each call at its
+//! largest size, with ample memory; and what is said of each fault.
 ghost use Rattle.std.specs.Prelude.{◌≡◌, IfSome};
 ghost use Rattle.cf_json.specs.Grammar.{Tree};
 ghost use Rattle.cf_json.specs.Spans.{IsAt};
@@ -217,8 +217,8 @@ quote \u{7f}é\u{2028}\u{1d11e} => \"\u{7f}é\u{2028}\u{1d11e}\"
 read_text \"*5416*\\u0009\\n\\\"\\/*\" => *5416*\t␊\"/*
 quote *5416*\t␊\"/* => \"*5416*\\t\\n\\\"/*\"";
 
-/// Texts of up to 65,536 bytes. Of those that are made compact the first becomes shorter; the others are compact already, without a
-/// space and with one in a string.
+/// Texts of up to 65,536 bytes. Of those that are made compact the first becomes shorter; the others are compact already, without
+/// a space and with one in a string.
 const LONG_ROWS: &str = r#"keys {*5999*"k#":1,*"end":1} => 6000 to end
 keys {*5000*"end":1,*"end":2} => 1 to end
 count *32768*{}* => 32768

@@ -218,8 +218,8 @@ fn tell_users(told: &mut Told, answer: Result<BTreeMap<String, String>, Refused>
     }
 }
 
-/// `enter C CLIENT USER`, `leave C CLIENT`, `list C`: who is there, each with its user; or `stats C`: how many clients are there, and
-/// how many users.
+/// `enter C CLIENT USER`, `leave C CLIENT`, `list C`: who is there, each with its user; or `stats C`: how many clients are there,
+/// and how many users.
 fn call_on_presence<N: Naming, R: Wait>(
     rt: &R,
     stage: &Stage<'_, '_, N>,

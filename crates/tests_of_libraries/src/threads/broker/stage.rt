@@ -212,8 +212,8 @@ fn play_rows<N: Naming + Send + Sync, R: Threads + Wait + Abort + Sync>(
     table.part_ends();
 }
 
-/// The rows of a part are played on a broker over these words, with a link of one place, and one of twenty. The broker lies in a box,
-/// since a function that lends a broker of its own is costly to prove.
+/// The rows of a part are played on a broker over these words, with a link of one place, and one of twenty. The broker lies in a
+/// box, since a function that lends a broker of its own is costly to prove.
 pub(super) fn play<N: Naming + Send + Sync, R: Threads + Wait + Abort + AllocGlobal + Sync>(
     rt: &R,
     words: Words,

@@ -1,3 +1,4 @@
+-- The text is written piece by piece; together the pieces are the epoch at the source's count.
 use Rattle.std.proofs.Common.{rules, ◌≡◌, length-append}
 use Rattle.cf_epochs.specs.Source.{IsSource, epoch_at}
 use Rattle.cf_epochs.proofs.Spelling.{spelled, epoch_of-epoch_at, length-epoch_at}

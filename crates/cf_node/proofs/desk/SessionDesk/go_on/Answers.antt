@@ -1,3 +1,4 @@
+-- A loop over parts of a call each: each goes on with the script where the one before left it.
 use Rattle.cf_session.specs.Standing.{met_refused_memory}
 use Rattle.cf_node.proofs.Carrying.{still_long}
 use Rattle.cf_node.proofs.desk.SessionDesk.go_on.Goals as goal

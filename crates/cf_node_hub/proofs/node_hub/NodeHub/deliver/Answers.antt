@@ -1,3 +1,4 @@
+-- What was seen of the log grows by the pass that comes with the delivery, in which its publication stands.
 use Rattle.std.proofs.Common.{◌≡◌, ◌∙◌, ap, subst, List, ℕ}
 use Rattle.cf_protocol.specs.Datum.{Placed}
 use Rattle.cf_hub.specs.Hub.{Delivers}

@@ -1,3 +1,4 @@
+-- What was seen of the log grows by the pass that comes with the answer, and the hub's move keeps to it.
 use Rattle.std.proofs.Common.{◌∙◌, ap, subst, List, ℕ}
 use Rattle.cf_hub.specs.Hub.{One}
 use Rattle.cf_hub.specs.Subscriptions.{reading_of}

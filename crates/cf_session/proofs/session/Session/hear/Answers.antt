@@ -1,3 +1,4 @@
+-- A text that is read becomes the script of its commands, and one that can't be read a close.
 use Rattle.std.proofs.Common.{◌≡◌, map, false, refl, ap, inl, inr, ◌∙◌, sym}
 use Rattle.cf_protocol.specs.Shown.{shown_command}
 use Rattle.cf_session.specs.CommandScripts.{frame_script}

@@ -1,3 +1,4 @@
+-- If memory is refused for a reply, the command is given up: a connect by a close, all others by an error.
 use Rattle.std.proofs.Common.{inr, ap, Some, sym, ◌∙◌}
 use Rattle.cf_protocol.specs.Shown.{shown_outcome}
 use Rattle.cf_session.specs.Standing.{tables_of, rest_of}

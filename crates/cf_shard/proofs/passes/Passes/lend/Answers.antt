@@ -1,3 +1,4 @@
+-- A loop over the sixteen passes: those that were lent so far are of the first shards, in order.
 use Rattle.std.proofs.Common.{◌≡◌, ◌<◌, arith, ap, sym, subst, ◌∙◌, length}
 use Rattle.cf_shard.specs.Shards.{AreOfShards, lent, pass_at}
 use Rattle.cf_shard.proofs.Named.{lent_all, lent_step, named_lent, named_length}

@@ -1,3 +1,4 @@
+-- The owner's log gains the entry of the size, and the streams change as their own call says.
 use Rattle.std.proofs.Common.{ap, refl, [], ◌∷◌, ◌∙◌}
 use Rattle.cf_protocol.specs.LogEntry.Entry.{Size}
 use Rattle.cf_shard.specs.Shard.{Lent}

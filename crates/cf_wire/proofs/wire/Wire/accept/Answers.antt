@@ -1,3 +1,4 @@
+-- The bytes that came are the head and what stands behind it, which is the wire's first input.
 use Rattle.std.proofs.Common.{◌≡◌, ◌-◌, ℕ, List, Option, Some, length, take, drop, subst, ap, ◌∙◌, arith}
 use Rattle.std.proofs.lemmas.Result.{IfOk-weaker}
 use Rattle.std.proofs.lemmas.Slice.{between_to_end}

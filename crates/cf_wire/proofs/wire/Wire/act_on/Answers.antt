@@ -1,3 +1,4 @@
+-- Each kind of message is one event of the turn.
 use Rattle.std.proofs.Common.{ap, sym, subst, ◌∙◌, refl, Ok}
 use Rattle.tungstenite.specs.Content.{text}
 use Rattle.tungstenite.specs.Socket.{Reads, content_of}

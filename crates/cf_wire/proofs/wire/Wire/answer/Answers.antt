@@ -1,3 +1,4 @@
+-- What a head asks for decides which answer is written; of each refusal it is said what stands on the stream.
 use Rattle.std.proofs.Common.{◌∙◌, ℕ, List, Option, refl, subst, sym}
 use Rattle.std.specs.Io.KnownBytes.{Appends}
 use Rattle.cf_handshake.specs.Answers.{opening_text}

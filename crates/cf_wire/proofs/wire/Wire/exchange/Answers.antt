@@ -1,3 +1,5 @@
+-- Each time round something is sent and then a message heard: the events so far are one part of a turn, to which the
+-- next ones are joined, and each way out ends it.
 use Rattle.std.proofs.Common.{◌+◌, arith, refl, inl, inr}
 use Rattle.cf_wire.specs.Turn.{going, emptied}
 use Rattle.cf_wire.proofs.Turns.{turns_then, turns_quiet, turns_done, turns_go_on, turns_wait}

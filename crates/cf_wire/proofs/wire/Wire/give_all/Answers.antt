@@ -1,3 +1,5 @@
+-- What is sent joins the events so far, until the desk has nothing more, the socket stops it, or as much was sent as
+-- may be.
 use Rattle.std.proofs.Common.{arith, refl, inl}
 use Rattle.cf_wire.specs.Turn.{none, emptied}
 use Rattle.cf_wire.proofs.Turns.{out_open, out_stopped, turns_one, turns_then, turns_sent_much}

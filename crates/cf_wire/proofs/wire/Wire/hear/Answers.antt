@@ -1,3 +1,4 @@
+-- A message that came, one that is too long, and an error of the read: each is one event of the turn.
 use Rattle.std.proofs.Common.{refl, sym, subst, Err}
 use Rattle.tungstenite.specs.declared.error.Error.{Error}
 use Rattle.cf_wire.specs.Turn.{is_bad}

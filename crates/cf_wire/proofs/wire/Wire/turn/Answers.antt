@@ -1,3 +1,4 @@
+-- A turn begins with the flush that was owed, and what follows is an exchange; or the flush ends it.
 use Rattle.std.proofs.Common.{arith, refl, ap, sym, ◌∙◌, Ok, Err}
 use Rattle.cf_wire.specs.Stages.{WireState}
 use Rattle.cf_wire.proofs.Turns.{turns_after, turns_quiet, turns_done, flush_turns}
