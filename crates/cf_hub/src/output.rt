@@ -51,7 +51,7 @@ impl Hub {
     }
 
     /// How many things wait for a session's client: the texts, and the close. It takes no memory.
-    pub fn queued_bytes(&self, session: u32) -> usize
+    pub fn queue_len(&self, session: u32) -> usize
         ensures { result ≡ length (waits_in (attached_at self.now session)) }
     {
         match self.session(session) {

@@ -74,9 +74,9 @@ fn channel_calls(report: &Report<'_>, hub: &Hub, ann: u32) {
 }
 
 fn output_calls(report: &Report<'_>, hub: &mut Hub, ann: u32) {
-    let waiting = hub.queued_bytes(ann);
+    let waiting = hub.queue_len(ann);
     let has_front = hub.front(ann).is_some();
-    report.made("Hub::queued_bytes and front", waiting == 2 && has_front);
+    report.made("Hub::queue_len and front", waiting == 2 && has_front);
     let next = hub.next_with_output();
     let is_taken = hub.take(ann).is_some();
     report.made(
