@@ -1,2 +1,5 @@
 pub mod Carrying
+pub mod Growing
+pub mod Handing
+pub mod Owning
 pub mod Turning

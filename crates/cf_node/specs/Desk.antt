@@ -39,6 +39,11 @@ abbrev pub TakesOwn : Option ℕ → Boxed → Boxed → Type 0
 TakesOwn None had has = has ≡ had
 TakesOwn (Some k) had has = TakesIf (is_for k had) k had has
 
+-- more stands behind what was taken for a client before, all of which is still there
+pub record Grows (had has : List Out) : Type 0 where
+  pub came : List Out
+  pub gained : has ≡ had ++ came
+
 -- What goes out is the front of what was taken before, which then has the rest; if nothing was, the code of a close
 -- that came before there was a session; else it is of what is taken now.
 abbrev pub HandsOut : List Out → Option ℕ → Option Out → List Out → Type 0

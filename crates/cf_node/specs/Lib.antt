@@ -1,3 +1,4 @@
 pub mod Answered
 pub mod Desk
+pub mod Own
 pub mod Ready

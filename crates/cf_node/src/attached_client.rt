@@ -1,8 +1,16 @@
 //! What the node keeps of a client, and what is done in the hub for it, while the hub is lent.
-ghost use Rattle.std.specs.Prelude.{◌≡◌, IfSome, Some};
+ghost use Rattle.std.specs.Prelude.{◌≡◌, ◌↔◌, ◌≤◌, IfOk, IfSome, IsTrue, None, OnOk, Some, is_some, string_bytes, true};
+ghost use Rattle.cf_dispatch.specs.Standing.{looked};
+ghost use Rattle.cf_node.specs.Desk.{TakesOwn};
+ghost use Rattle.cf_node.specs.Own.{BeginsOwn, MovesOwn, OpensOwn, TouchesOwn};
+ghost use Rattle.cf_node_hub.specs.Histories.{RepliesHistory};
+ghost use Rattle.cf_node_hub.specs.Told.{IsReply};
+ghost use Rattle.cf_shard.specs.Shards.{number_of};
 
-use cf_dispatch::{PongWatch, Standing};
+use cf_dispatch::{Outbox, PongWatch, Standing, take_for};
+use cf_hub::{Checked, Queued};
 use cf_node_hub::{Begun, NodeHub};
+use cf_order::Pass;
 use cf_protocol::{ErrorCode, Position};
 use cf_session::hub_error;
 use cf_shard::{Naming, ShardWords};
@@ -18,11 +26,12 @@ pub(crate) struct Present {
     pub(crate) mark: Option<u64>,
 }
 
-/// What the node keeps of a client.
+/// What the node keeps of a client. Which session of the hub is its own is known here alone: what is done there for it is done by
+/// the calls below, each of which says what it changes in the hub that it is lent.
 #[derive(Drop)]
 pub(crate) struct AttachedClient<N: Naming> {
-    /// The number of its session in the hub, once it is attached, and whether it is over.
-    pub(crate) standing: Standing,
+    // The number of its session in the hub, once it is attached, and whether it is over.
+    standing: Standing,
     /// Whether it answers its pings in time.
     pub(crate) pongs: PongWatch,
     /// Nothing more comes of it: it is present nowhere any more.
@@ -59,6 +68,58 @@ impl<N: Naming> AttachedClient<N> {
         }
     }
 
+    /// Whether it has a session in the hub.
+    pub(crate) fn has_session(&self) -> bool
+        ensures { result ≡ is_some self.now.standing.number }
+    {
+        self.standing.number().is_some()
+    }
+
+    /// Whether its session is the one of this number.
+    pub(crate) fn is_of(&self, session: u32) -> bool
+        ensures { IsTrue result ↔ (self.now.standing.number ≡ Some session) }
+    {
+        self.standing.number() == Some(session)
+    }
+
+    /// Whether what was taken from the hub is its session's; where it has none, whether it is of none.
+    pub(crate) fn owns(&self, outbox: &Outbox) -> bool
+        ensures { IsTrue result ↔ (outbox.now.session ≡ self.now.standing.number) }
+    {
+        outbox.session() == self.standing.number()
+    }
+
+    /// Whether its session is over, as far as was looked or told.
+    pub(crate) fn is_over(&self) -> bool
+        ensures { result ≡ self.now.standing.is_over }
+    {
+        self.standing.is_over()
+    }
+
+    /// Looks in the hub whether its session is over.
+    pub(crate) fn look(&mut self, hub: &NodeHub<N>)
+        ensures { self.new.standing ≡ looked hub.now.node self.old.standing }
+    {
+        self.standing.look(hub);
+    }
+
+    /// Its session is over, as was seen at this moment.
+    pub(crate) fn ends(&mut self, now: u64)
+        ensures { self.new.standing ≡ record self.old.standing { is_over = true } }
+    {
+        self.standing.end();
+        self.refreshed = now;
+    }
+
+    /// Its session, if it has one, sits at this place from now on.
+    pub(crate) fn sits_at(&self, owners: &mut Vec<usize>, place: usize) {
+        if let Some(number) = self.standing.number() {
+            if let Some(owner) = owners.get_mut(number as usize) {
+                *owner = place;
+            }
+        }
+    }
+
     /// The client is present in one channel more. Where memory is refused, it isn't noted, and its
     /// presence ends by itself.
     pub(crate) fn add(&mut self, channel: String) {
@@ -80,7 +141,10 @@ impl<N: Naming> AttachedClient<N> {
         alloc: Global,
         user: String,
         now: u64,
-    ) -> Result<String, ErrorCode> {
+    ) -> Result<String, ErrorCode>
+        ensures { OnOk result (OpensOwn self.new.standing.number (string_bytes user) now
+            hub.old.node hub.new.node) }
+    {
         match user.clone() {
             Ok(kept) => self.user = kept,
             Err(_) => return Err(ErrorCode::Internal),
@@ -109,7 +173,10 @@ impl<N: Naming> AttachedClient<N> {
         channel: String,
         id: u32,
         since: Option<Position>,
-    ) -> Result<(), ErrorCode> {
+    ) -> Result<(), ErrorCode>
+        ensures { OnOk result (BeginsOwn self.old.standing.number (string_bytes channel) id since
+            hub.old.node hub.new.node) }
+    {
         let Some(number) = self.standing.number() else {
             return Err(ErrorCode::Internal);
         };
@@ -142,10 +209,13 @@ impl<N: Naming> AttachedClient<N> {
     pub(crate) fn take_begun(&mut self, channel: &str, since: Option<Position>) -> Option<Begun<N>>
         ensures channel { IfSome result (λ b. b.channel ≡ channel.now) }
         ensures own { IfSome result (λ b. self.old.standing.number ≡ Some b.session) }
+        ensures since { IfSome result (λ b. b.since ≡ since) }
     {
         let begun = Box::into_inner(self.begun.take()?)?;
         let is_own = self.standing.number() == Some(begun.session());
-        if is_own && begun.channel() == channel && begun.since() == since {
+        let is_there = begun.channel() == channel;
+        let is_from = begun.since() == since;
+        if is_own && is_there && is_from {
             Some(begun)
         } else {
             None
@@ -153,7 +223,9 @@ impl<N: Naming> AttachedClient<N> {
     }
 
     /// The subscription is finished. Whether it stands then.
-    pub(crate) fn finish(&self, hub: &mut NodeHub<N>, channel: &str) -> bool {
+    pub(crate) fn finish(&self, hub: &mut NodeHub<N>, channel: &str) -> bool
+        ensures { TouchesOwn self.now.standing.number hub.old.node hub.new.node }
+    {
         let Some(number) = self.standing.number() else {
             return false;
         };
@@ -161,8 +233,108 @@ impl<N: Naming> AttachedClient<N> {
         hub.is_subscribed(number, channel)
     }
 
+    /// The client leaves a channel.
+    pub(crate) fn leave(&self, hub: &mut NodeHub<N>, channel: &str)
+        ensures { TouchesOwn self.now.standing.number hub.old.node hub.new.node }
+    {
+        if let Some(number) = self.standing.number() {
+            hub.leave(number, channel);
+        }
+    }
+
+    /// A reply that brings no publications waits for the client, or its session is closed. `false` where that is closed then, or
+    /// gone.
+    pub(crate) fn say(&self, hub: &mut NodeHub<N>, text: String) -> bool
+        requires { IsReply (string_bytes text) }
+        ensures { TouchesOwn self.now.standing.number hub.old.node hub.new.node }
+    {
+        match self.standing.number() {
+            Some(number) => hub.say(number, text) == Queued::Kept,
+            None => true,
+        }
+    }
+
+    /// The same of the reply to a history of a channel, with the pass by which that was answered.
+    pub(crate) fn say_history<W: ShardWords<N>>(
+        &self,
+        hub: &mut NodeHub<N>,
+        words: &W,
+        channel: &str,
+        text: String,
+        pass: Pass,
+    ) -> bool
+        requires word { pass.word ≡ N.words (number_of channel.now) }
+        requires replies { RepliesHistory N.namespaces pass.log channel.now (string_bytes text) }
+        ensures { TouchesOwn self.now.standing.number hub.old.node hub.new.node }
+    {
+        match self.standing.number() {
+            Some(number) => hub.say_history(words, number, channel, text, pass) == Queued::Kept,
+            None => true,
+        }
+    }
+
+    /// The hub owes its session no answer to a ping.
+    pub(crate) fn pong(&self, hub: &mut NodeHub<N>)
+        ensures { TouchesOwn self.now.standing.number hub.old.node hub.new.node }
+    {
+        if let Some(number) = self.standing.number() {
+            hub.pong(number);
+        }
+    }
+
+    /// Its session is closed with this code.
+    pub(crate) fn close(&self, hub: &mut NodeHub<N>, code: u16)
+        ensures { TouchesOwn self.now.standing.number hub.old.node hub.new.node }
+    {
+        if let Some(number) = self.standing.number() {
+            hub.close(number, code);
+        }
+    }
+
+    /// Checks a subscription of its session against where the channel's stream stands.
+    pub(crate) fn check(
+        &self,
+        hub: &mut NodeHub<N>,
+        channel: &str,
+        top: Option<Position>,
+    ) -> Checked
+        ensures { TouchesOwn self.now.standing.number hub.old.node hub.new.node }
+    {
+        match self.standing.number() {
+            Some(number) => hub.check(number, channel, top),
+            None => Checked::Nothing,
+        }
+    }
+
+    /// Takes what waits for its session, and puts it behind what was taken for it before. Whether more may wait.
+    pub(crate) fn take(&self, hub: &mut NodeHub<N>, outbox: &mut Outbox) -> bool
+        ensures own { TakesOwn self.now.standing.number outbox.old outbox.new }
+        ensures moves { MovesOwn self.now.standing.number hub.old.node hub.new.node
+            outbox.old.outs.items outbox.new.outs.items }
+    {
+        match self.standing.number() {
+            Some(number) => take_for(hub, number, true, outbox).leaves_more(),
+            None => false,
+        }
+    }
+
+    /// Its session goes. From then on it has none, and what it had is over.
+    pub(crate) fn detach(&mut self, hub: &mut NodeHub<N>)
+        ensures own { TouchesOwn self.old.standing.number hub.old.node hub.new.node }
+        ensures none { self.new.standing.number ≡ None }
+    {
+        if let Some(number) = self.standing.number() {
+            hub.detach(number);
+        }
+        self.standing = Standing::nobody();
+        self.standing.end();
+    }
+
     /// Forgets the mark of each subscription that has ended meanwhile.
-    pub(crate) fn forgets_ended(&mut self, hub: &NodeHub<N>, number: u32) {
+    pub(crate) fn forgets_ended(&mut self, hub: &NodeHub<N>) {
+        let Some(number) = self.standing.number() else {
+            return;
+        };
         for present in self.channels.iter_mut() {
             if !hub.is_subscribed(number, present.channel.as_str()) {
                 present.mark = None;

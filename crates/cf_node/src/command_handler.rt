@@ -7,8 +7,7 @@ use crate::attached_client::AttachedClient;
 use crate::backend::Backend;
 use crate::costs::{CALL, LOOP_BUDGET, TEXT, cost_of, may_publish};
 use crate::error_counts::NodeError;
-use cf_dispatch::{Group, Outbox, broker_error, take_for};
-use cf_hub::Queued;
+use cf_dispatch::{Group, Outbox, broker_error};
 use cf_node_hub::history_reply;
 use cf_order::Pass;
 use cf_presence::Stats;
@@ -63,7 +62,7 @@ impl<'a, B: Backend> CommandExecutor for CommandHandler<'a, B> {
     ghost does = { λ _ act answer _. IsDone B.Of.Naming.namespaces act answer };
 
     fn is_closed(&self) -> bool {
-        self.client.standing.is_over()
+        self.client.is_over()
     }
 
     fn attach(&mut self, user: String) -> Result<String, ErrorCode> {
@@ -120,9 +119,7 @@ impl<'a, B: Backend> CommandExecutor for CommandHandler<'a, B> {
         if self.sees_end() {
             return;
         }
-        if let Some(number) = self.client.standing.number() {
-            self.backend.hub().leave(number, channel);
-        }
+        self.client.leave(&mut self.backend.hub(), channel);
         self.backend.leave(channel, self.client.id.as_str());
         let channels = &mut self.client.channels;
         channels.retain(|one| one.channel.as_str() != channel);
@@ -194,29 +191,28 @@ impl<'a, B: Backend> CommandExecutor for CommandHandler<'a, B> {
 
     // The text waits for the client, or its session is closed, which is remembered.
     fn say(&mut self, text: String) {
-        let Some(number) = self.client.standing.number() else {
+        if !self.client.has_session() {
             return;
-        };
+        }
         self.pay_for(text.as_str());
-        let said = self.backend.hub().say(number, text);
-        if said != Queued::Kept {
+        let goes_on = self.client.say(&mut self.backend.hub(), text);
+        if !goes_on {
             self.stop();
         }
     }
 
     fn pong(&mut self) {
         self.client.pongs.pong();
-        if let Some(number) = self.client.standing.number() {
-            self.backend.hub().pong(number);
-        }
+        self.client.pong(&mut self.backend.hub());
     }
 
     // The session is closed. One that isn't attached has no queue: its close is sent as it is.
     fn close(&mut self, code: CloseCode) {
         let code = code.code();
-        match self.client.standing.number() {
-            Some(number) => self.backend.hub().close(number, code),
-            None => self.client.refused = Some(code),
+        if self.client.has_session() {
+            self.client.close(&mut self.backend.hub(), code);
+        } else {
+            self.client.refused = Some(code);
         }
         self.stop();
     }
@@ -244,19 +240,18 @@ impl<'a, B: Backend> CommandHandler<'a, B> {
         requires word { pass.word ≡ B.Of.Naming.words (number_of channel.now) }
         requires listed { IsListedIn B.Of.Naming.namespaces pass.log channel.now history }
     {
-        let Some(number) = self.client.standing.number() else {
+        if !self.client.has_session() {
             return Err(ErrorCode::Internal);
-        };
+        }
         let Ok(text) = history_reply(self.backend.alloc(), id, history) else {
             return Err(ErrorCode::Internal);
         };
         self.pay_for(text.as_str());
         let words = self.backend.words();
-        let said = self
-            .backend
-            .hub()
-            .say_history(words, number, channel, text, pass);
-        if said != Queued::Kept {
+        let goes_on = self
+            .client
+            .say_history(&mut self.backend.hub(), words, channel, text, pass);
+        if !goes_on {
             self.stop();
         }
         Ok(())
@@ -307,12 +302,7 @@ impl<'a, B: Backend> CommandHandler<'a, B> {
     pub(crate) fn take(&self, outbox: &mut Outbox) -> bool
         ensures { TakesOwn self.entry.now.client.standing.number outbox.old outbox.new }
     {
-        match self.client.standing.number() {
-            Some(number) => {
-                take_for(&mut self.backend.hub(), number, true, outbox).leaves_more()
-            }
-            None => false,
-        }
+        self.client.take(&mut self.backend.hub(), outbox)
     }
 
     /// Wakes who brings on what was published in a turn, where nobody was woken for it yet.
@@ -329,7 +319,7 @@ impl<'a, B: Backend> CommandHandler<'a, B> {
         if self.is_closed() {
             return true;
         }
-        self.client.standing.look(&self.backend.hub());
+        self.client.look(&self.backend.hub());
         if !self.is_closed() {
             return false;
         }
@@ -368,8 +358,7 @@ impl<'a, B: Backend> CommandHandler<'a, B> {
 
     // The session is over.
     fn end(&mut self) {
-        self.client.standing.end();
-        self.client.refreshed = self.now;
+        self.client.ends(self.now);
         self.leave_all();
     }
 

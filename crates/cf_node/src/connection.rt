@@ -3,7 +3,7 @@ use crate::backend::Backend;
 use crate::desk::SessionDesk;
 use crate::leaving::Leaving;
 use crate::socket::Socket;
-use cf_dispatch::{Outbox, is_head_over};
+use cf_dispatch::is_head_over;
 use cf_session::{TurnEnd, Wire};
 use cf_wire::Gather;
 use std::io::ErrorKind;
@@ -112,9 +112,7 @@ impl<'a, B: Backend> Open<'a, B> {
     // Whether it has no session, so many seconds after it was opened.
     fn is_stale(&self, now: u64, stale: u64) -> bool {
         let client = &self.desk.handler.client;
-        stale != 0
-            && client.standing.number().is_none()
-            && now.saturating_sub(client.refreshed) >= stale
+        stale != 0 && !client.has_session() && now.saturating_sub(client.refreshed) >= stale
     }
 
     /// Takes a turn: sends what waits while the socket takes it, and where it is to hear, carries on
@@ -160,7 +158,12 @@ impl<'a, B: Backend> Open<'a, B> {
 
     // Whether there is more to do at once.
     fn has_more(&self) -> bool {
-        takes_more(&self.wire, &self.desk.outbox) && (self.desk.goes_on() || self.desk.owed)
+        self.takes_more() && (self.desk.goes_on() || self.desk.owed)
+    }
+
+    /// Whether what is taken for its client can be sent at once.
+    pub(crate) fn takes_more(&self) -> bool {
+        self.desk.is_sent() && !self.wire.is_unflushed() && self.wire.stream().is_drained()
     }
 }
 
@@ -174,9 +177,4 @@ fn drains(wire: &mut Wire<Gather<Socket>>) -> bool {
 
 fn has_blank_line(bytes: &[u8]) -> bool {
     bytes.windows(4).any(|part| part == b"\r\n\r\n".as_slice())
-}
-
-/// Whether what is taken for a client can be sent at once.
-pub(crate) fn takes_more(wire: &Wire<Gather<Socket>>, outbox: &Outbox) -> bool {
-    outbox.is_empty() && !wire.is_unflushed() && wire.stream().is_drained()
 }

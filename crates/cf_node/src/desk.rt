@@ -1,9 +1,11 @@
 //! What stands between a wire and its session: texts are heard, and what the hub has for the client
 //! is handed out.
-ghost use Rattle.std.specs.Prelude.{◌≡◌, ◌≢◌, true, false};
+ghost use Rattle.std.specs.Prelude.{◌≡◌, ◌≢◌, ◌==◌, ◌++◌, true, false};
+ghost use Rattle.std.specs.VecDeque.{deque_len};
 ghost use Rattle.cf_session.specs.SessionMachine.{HearsText};
 ghost use Rattle.cf_session.specs.Standing.{is_idle, met_refused_memory, progress_of, tables_of};
 ghost use Rattle.cf_session.specs.Played.{AskStreams};
+ghost use Rattle.cf_node.specs.Desk.{Grows};
 ghost use Rattle.cf_node.specs.Ready.{AskStreams-prop, is_out};
 
 use crate::attached_client::AttachedClient;
@@ -89,8 +91,8 @@ impl<'a, B: Backend> Talk<'a, B> {
 pub(crate) struct SessionDesk<'a, B: Backend> {
     pub(crate) handler: CommandHandler<'a, B>,
     talk: Talk<'a, B>,
-    /// What was taken from the hub for the client and isn't sent yet.
-    pub(crate) outbox: Outbox,
+    // What was taken from the hub for the client and isn't sent yet.
+    outbox: Outbox,
     /// Something may wait in the hub that was not taken.
     pub(crate) owed: bool,
     // Texts are heard in this turn.
@@ -106,14 +108,15 @@ pub(crate) struct SessionDesk<'a, B: Backend> {
 }
 
 impl<'a, B: Backend> Desk for SessionDesk<'a, B> {
-    ghost use Rattle.cf_node.specs.Desk.{Hears, HandsOut, is_ready};
+    ghost use Rattle.cf_node.specs.Desk.{Grows, Hears, HandsOut, is_ready};
 
     ghost ready = { λ d.
         is_ready d.hears d.left d.handler.client.standing.is_over d.talk.session };
 
     ghost hears = { λ old text new.
         Hears B.Of.Naming.namespaces (λ h. h.client.standing.is_over) old.talk.session old.handler
-        text new.talk.session new.handler };
+        text new.talk.session new.handler
+        × Grows old.outbox.outs.items new.outbox.outs.items };
 
     ghost gives = { λ old out new.
         HandsOut old.outbox.outs.items old.handler.client.refused out new.outbox.outs.items };
@@ -144,8 +147,8 @@ impl<'a, B: Backend> Desk for SessionDesk<'a, B> {
 }
 
 impl<'a, B: Backend> SessionDesk<'a, B> {
-    ghost use Rattle.std.specs.Prelude.{[]};
-    ghost use Rattle.cf_node.specs.Desk.{CarriesOn, HandsOut};
+    ghost use Rattle.cf_dispatch.specs.Outlet.{is_for};
+    ghost use Rattle.cf_node.specs.Desk.{CarriesOn, Grows, HandsOut};
 
     pub(crate) fn new(backend: &'a B, now: u64) -> SessionDesk<'a, B> {
         let alloc = backend.alloc();
@@ -175,21 +178,32 @@ impl<'a, B: Backend> SessionDesk<'a, B> {
 
     /// A turn begins at this moment, in which texts are heard, or things only sent: in the former
     /// what is on its way goes on.
-    pub(crate) fn begin(&mut self, now: u64, hears: bool) {
+    pub(crate) fn begin(&mut self, now: u64, hears: bool)
+        ensures { Grows self.old.outbox.outs.items self.new.outbox.outs.items }
+    {
         self.handler.now = now;
         self.hears = hears;
         self.has_heard = false;
-        if hears {
-            let is_crowded = self.handler.backend.is_crowded();
-            self.left = if is_crowded { FEW_UNITS } else { UNITS };
-            self.handler.is_held = false;
-            // What was taken for the client goes out before.
-            if !self.talk.session.is_idle() && self.outbox.is_empty() {
-                self.go_on();
-                self.owed = true;
-                self.has_heard = true;
-            }
+        if !hears {
+            return;
         }
+        let is_crowded = self.handler.backend.is_crowded();
+        self.left = if is_crowded { FEW_UNITS } else { UNITS };
+        self.handler.is_held = false;
+        // What was taken for the client goes out before.
+        if self.talk.session.is_idle() || !self.outbox.is_empty() {
+            return;
+        }
+        self.go_on();
+        self.owed = true;
+        self.has_heard = true;
+    }
+
+    /// Whether nothing that was taken for the client waits to be sent.
+    pub(crate) fn is_sent(&self) -> bool
+        ensures { result ≡ (deque_len self.now.outbox.outs == 0) }
+    {
+        self.outbox.is_empty()
     }
 
     // How many units are left in the turn for what is heard: none for what is put off.
@@ -234,6 +248,7 @@ impl<'a, B: Backend> SessionDesk<'a, B> {
             self.old.talk.session self.old.handler self.new.talk.session self.new.handler }
         ensures short { met_refused_memory self.old.talk.session ≡ true
             → met_refused_memory self.new.talk.session ≡ true }
+        ensures grows { Grows self.old.outbox.outs.items self.new.outbox.outs.items }
     {
         let mut said: usize = 0;
         for part in 0..MOST_PARTS {
@@ -256,12 +271,19 @@ impl<'a, B: Backend> SessionDesk<'a, B> {
         }
     }
 
-    /// Lends what was taken for the client, to be given back with what is taken for it since.
-    pub(crate) fn lend(&mut self) -> Outbox
-        ensures lent { result ≡ self.old.outbox }
-        ensures left { self.new.outbox.outs.items ≡ [] }
+    /// Lends what was taken for the client, if the session of this number is its own, to be given back with what is taken for it
+    /// since; else one with nothing in it.
+    pub(crate) fn lend(&mut self, session: u32) -> Outbox
+        ensures own { is_for session result ≡ true }
+        ensures kept { self.old.outbox.outs.items
+            ≡ result.outs.items ++ self.new.outbox.outs.items }
     {
-        mem::replace(&mut self.outbox, Outbox::new(self.handler.backend.alloc()))
+        let empty = Outbox::new(self.handler.backend.alloc());
+        if self.handler.client.is_of(session) && self.outbox.is_for(session) {
+            mem::replace(&mut self.outbox, empty)
+        } else {
+            empty
+        }
     }
 
     /// What was lent comes back with what was taken since, where it is of the client's own session; and more may wait for it in
@@ -273,7 +295,7 @@ impl<'a, B: Backend> SessionDesk<'a, B> {
             → self.new.outbox ≡ self.old.outbox }
     {
         self.owed = more;
-        if outbox.session() != self.handler.client.standing.number() {
+        if !self.handler.client.owns(&outbox) {
             return;
         }
         self.outbox = outbox;
@@ -284,8 +306,8 @@ impl<'a, B: Backend> SessionDesk<'a, B> {
         ensures hands { HandsOut self.old.outbox.outs.items self.old.handler.client.refused result
             self.new.outbox.outs.items }
     {
-        if !self.outbox.is_empty() {
-            return self.outbox.next();
+        if let Some(out) = self.outbox.next() {
+            return Some(out);
         }
         if let Some(code) = self.handler.client.refused.take() {
             return Some(Out::Close(code));
@@ -302,11 +324,13 @@ impl<'a, B: Backend> SessionDesk<'a, B> {
 }
 
 // Takes what waits in the hub for a client. How many bytes of text that is.
-fn take_over<B: Backend>(handler: &CommandHandler<'_, B>, outbox: &mut Outbox) -> usize {
+fn take_over<B: Backend>(handler: &CommandHandler<'_, B>, outbox: &mut Outbox) -> usize
+    ensures { Grows outbox.old.outs.items outbox.new.outs.items }
+{
     let known = outbox.items().len();
     for _ in 0..MOST_TAKES {
         if !handler.take(outbox) {
-            break;
+            return bytes_behind(outbox, known);
         }
     }
     bytes_behind(outbox, known)

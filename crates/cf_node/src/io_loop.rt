@@ -3,7 +3,7 @@
 //! the loop gives turns until they cost a certain sum, and not so many.
 use crate::acceptor::{Acceptor, LISTENER, WAKER};
 use crate::backend::Backend;
-use crate::connection::{Connection, Head, HeadStage, Open, Turned, takes_more};
+use crate::connection::{Connection, Head, HeadStage, Open, Turned};
 use crate::costs::{CALL, LOOP_BUDGET};
 use crate::desk::SessionDesk;
 use crate::error_counts::NodeError;
@@ -591,11 +591,7 @@ impl<'a, B: Backend> IoLoop<'a, B> {
                 cost = open.desk.handler.cost;
                 is_spent = open.is_spent;
                 open.desk.handler.ring();
-                if let Some(number) = open.desk.handler.client.standing.number() {
-                    if let Some(owner) = self.owners.get_mut(number as usize) {
-                        *owner = place;
-                    }
-                }
+                open.desk.handler.client.sits_at(&mut self.owners, place);
                 turned
             }
             Connection::Leaving(leaving) => leaving.turn(),
@@ -729,9 +725,11 @@ impl<'a, B: Backend> IoLoop<'a, B> {
             if let Some(Connection::Open(open)) = self.places.get_mut(place) {
                 // Its close is still to be told.
                 open.desk.owed = true;
-                if let Some(number) = open.desk.handler.client.standing.number() {
-                    self.backend.hub().close(number, CloseCode::Shutdown.code());
-                }
+                let code = CloseCode::Shutdown.code();
+                open.desk
+                    .handler
+                    .client
+                    .close(&mut self.backend.hub(), code);
             }
             self.serve(place, false);
         }
@@ -754,8 +752,7 @@ impl<'a, B: Backend> Outlets for IoLoop<'a, B> {
     fn is_free(&self, session: u32) -> bool {
         match self.places.get(place_of(&self.owners, session)) {
             Some(Connection::Open(open)) => {
-                open.desk.handler.client.standing.number() == Some(session)
-                    && takes_more(&open.wire, &open.desk.outbox)
+                open.desk.handler.client.is_of(session) && open.takes_more()
             }
             _ => false,
         }
@@ -764,7 +761,7 @@ impl<'a, B: Backend> Outlets for IoLoop<'a, B> {
     fn lend(&mut self, session: u32) -> Outbox {
         let place = place_of(&self.owners, session);
         match self.places.get_mut(place) {
-            Some(Connection::Open(open)) => open.desk.lend(),
+            Some(Connection::Open(open)) => open.desk.lend(session),
             _ => Outbox::new(self.backend.alloc()),
         }
     }
@@ -774,7 +771,7 @@ impl<'a, B: Backend> Outlets for IoLoop<'a, B> {
         let Some(Connection::Open(open)) = self.places.get_mut(place) else {
             return;
         };
-        let is_free = takes_more(&open.wire, &open.desk.outbox);
+        let is_free = open.takes_more();
         open.desk.give(outbox, more);
         // There is room for it.
         let _ = self.batch.push(Named { place, is_free });

@@ -23,11 +23,9 @@ impl<'a, B: Backend> CommandHandler<'a, B> {
             }
             return !is_over;
         }
-        if let Some(number) = self.client.standing.number() {
-            if now.saturating_sub(self.client.refreshed) >= ROUND {
-                self.client.refreshed = now;
-                self.go_round(number);
-            }
+        if self.client.has_session() && now.saturating_sub(self.client.refreshed) >= ROUND {
+            self.client.refreshed = now;
+            self.go_round();
         }
         true
     }
@@ -36,24 +34,25 @@ impl<'a, B: Backend> CommandHandler<'a, B> {
     /// which may lie in its socket, and the hub forgets that it owes one; who had 8 seconds since then
     /// is closed with 3012.
     pub(crate) fn looks_for_pong(&mut self, now: u64, is_unheard: bool) {
-        let Some(number) = self.client.standing.number() else {
+        if !self.client.has_session() {
             return;
-        };
+        }
         if is_unheard && self.client.pongs.owes() {
-            self.backend.hub().pong(number);
+            self.client.pong(&mut self.backend.hub());
         }
         if self.client.pongs.second_comes(now, is_unheard) {
-            self.backend.hub().close(number, CloseCode::NoPong.code());
+            let code = CloseCode::NoPong.code();
+            self.client.close(&mut self.backend.hub(), code);
         }
     }
 
     // A round of the client.
-    fn go_round(&mut self, number: u32) {
-        self.client.forgets_ended(&self.backend.hub(), number);
+    fn go_round(&mut self) {
+        self.client.forgets_ended(&self.backend.hub());
         for _ in 0..self.client.channels.len() {
             // Each is taken from the front and, where it stands, put back behind the others.
             if let Some(mut present) = self.client.channels.pop_front() {
-                if self.stands(number, &mut present) {
+                if self.stands(&mut present) {
                     self.enter(present.channel.as_str());
                     let _ = self.client.channels.push_back(present);
                 } else {
@@ -66,21 +65,19 @@ impl<'a, B: Backend> CommandHandler<'a, B> {
 
     // Checks the position of a subscription, and says whether it goes on. Where its last check was
     // fine, and its shard's log is as it was then, this one would be fine too, and is left out.
-    fn stands(&self, number: u32, present: &mut Present) -> bool {
+    fn stands(&self, present: &mut Present) -> bool {
         let channel = present.channel.as_str();
         let Some((top, mark)) = self.backend.position_since(channel, present.mark) else {
             return true;
         };
-        let checked = self.backend.hub().check(number, channel, top);
+        let checked = self.client.check(&mut self.backend.hub(), channel, top);
         present.mark = mark_after(checked, mark);
         goes_on(checked)
     }
 
     /// The connection is over: the client's session goes, and it is present nowhere.
     pub(crate) fn give_up(&mut self) {
-        if let Some(number) = self.client.standing.number() {
-            self.backend.hub().detach(number);
-        }
+        self.client.detach(&mut self.backend.hub());
         self.leave_all();
     }
 

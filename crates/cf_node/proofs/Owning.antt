@@ -1,0 +1,23 @@
+-- What is done in a hub for a client's own session.
+use Rattle.std.proofs.Common.{◌≡◌, ℕ, Option, Some, List}
+use Rattle.cf_protocol.specs.Position.{Position}
+use Rattle.cf_queue.specs.declared.queue.Out.{Out}
+use Rattle.cf_hub.specs.Hub.{Begins, Node, Opens, OthersStay}
+use Rattle.cf_dispatch.specs.Outlet.{Takes}
+use Rattle.cf_node.specs.Own.{BeginsOwn, MovesOwn, OpensOwn, TouchesOwn}
+
+pub touches_own : (own : Option ℕ) (k : ℕ) (old new : Node) → own ≡ Some k → OthersStay k old new
+    → TouchesOwn own old new
+touches_own own k old new is others = rw is others
+
+pub begins_own : (own : Option ℕ) (k : ℕ) (c : List ℕ) (id : ℕ) (since : Option Position) (old new : Node)
+    → own ≡ Some k → Begins k c id since old new → BeginsOwn own c id since old new
+begins_own own k c id since old new is begins = rw is begins
+
+pub opens_own : (own : Option ℕ) (k : ℕ) (user : List ℕ) (now : ℕ) (old new : Node)
+    → own ≡ Some k → Opens k user now old new → OpensOwn own user now old new
+opens_own own k user now old new is opens = rw is opens
+
+pub moves_own : (own : Option ℕ) (k : ℕ) (old new : Node) (had has : List Out)
+    → own ≡ Some k → Takes k old new had has → MovesOwn own old new had has
+moves_own own k old new had has is takes = rw is takes

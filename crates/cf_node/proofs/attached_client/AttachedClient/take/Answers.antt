@@ -1,0 +1,10 @@
+use Rattle.std.proofs.Common.{sym}
+use Rattle.cf_node.proofs.Handing.{takes_own}
+use Rattle.cf_node.proofs.attached_client.AttachedClient.take.Goals as goal
+
+-- what is taken is taken for the client's own session
+pub returns-in-Some-clause-own : goal.returns-in-Some-clause-own
+returns-in-Some-clause-own g c =
+    let took = c.take_for.ensures in
+    takes_own c.args.self.now.standing.number c.in-Some.number c.args.outbox.now c.take_for.new.outbox
+    (sym c.in-Some.ensures) (λ still. (took.nothing still).1) (λ may. (took.own may, took.takes.taken, took.takes.gained))

@@ -1,0 +1,5 @@
+use Rattle.cf_node.proofs.command_handler.CommandHandlerCommandExecutor.read.Goals as goal
+
+-- what was read for what began
+pub read_done-requires-clause-read : goal.read_done-requires-clause-read
+read_done-requires-clause-read g c = rw c.in-Ok.ensures.same c.in-Ok.ensures.read

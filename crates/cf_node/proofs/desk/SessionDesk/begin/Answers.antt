@@ -1,0 +1,10 @@
+use Rattle.cf_node.proofs.Growing.{grows_none}
+use Rattle.cf_node.proofs.desk.SessionDesk.begin.Goals as goal
+
+-- nothing is taken out
+pub returns-then-not-hears : goal.returns-then-not-hears
+returns-then-not-hears g c = grows_none c.args.self.now.outbox.outs.items
+
+-- what is taken comes behind
+pub returns : goal.returns
+returns g c = c.go_on.ensures.grows
