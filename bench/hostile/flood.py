@@ -54,6 +54,14 @@ class Crowd:
         self.process.wait()
 
 
+def crowd_made_in(folder):
+    """The program of crowd.c, made in this folder."""
+    made = f"{folder}/crowd"
+    source = os.path.join(os.path.dirname(os.path.abspath(__file__)), "crowd.c")
+    subprocess.run(["cc", "-O2", "-o", made, source], check=True)
+    return made
+
+
 def asks(asker, seconds):
     """Has a client ask a little for so long, so that it is known to cost little."""
     until = time.monotonic() + seconds
@@ -150,9 +158,7 @@ def flood(program, crowd, size, reading, seconds, publishers, processors, asking
 
 def check(program, seconds, kind, publishers, processors, bytes, readers, healthy, gap, anew):
     with tempfile.TemporaryDirectory() as folder:
-        crowd = f"{folder}/crowd"
-        source = os.path.join(os.path.dirname(os.path.abspath(__file__)), "crowd.c")
-        subprocess.run(["cc", "-O2", "-o", crowd, source], check=True)
+        crowd = crowd_made_in(folder)
         kinds = [kind] if kind else list(KINDS)
         found = []
         for one in kinds:

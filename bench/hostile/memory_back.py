@@ -13,11 +13,10 @@ of the toolchain's kit keeps it; what stays beyond that is judged.
 The readers are of C (crowd.c, which `cc` makes into a folder of its own).
 """
 import os
-import subprocess
 import tempfile
 import time
 
-from flood import Crowd
+from flood import Crowd, crowd_made_in
 from peers import LARGE, Fails, Peer, Server, frame, run, text_of
 
 HELD, BODY = 10_000, "x" * 10_000
@@ -73,9 +72,7 @@ def stream(program):
 def crowd(program, readers):
     """A large publication to many."""
     with tempfile.TemporaryDirectory() as folder:
-        made = f"{folder}/crowd"
-        source = os.path.join(os.path.dirname(os.path.abspath(__file__)), "crowd.c")
-        subprocess.run(["cc", "-O2", "-o", made, source], check=True)
+        made = crowd_made_in(folder)
         with Server(program, nodes=2) as server:
             reading = Crowd(made, "reads", server.ports, "crowd", readers)
             few = Crowd(made, "reads", server.ports, "few", readers // 20)

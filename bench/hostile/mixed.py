@@ -12,6 +12,9 @@ clients have open varies. Channels stay once they are there, so the 200,000 of `
 begin, while all is calm: what is looked at later has them both times. If a healthy client waits over two seconds, it is said when in the
 life that was, and what ran then: the server's threads, the other clients, and the machine.
 
+With `--flood N` so many of `flood`'s publishers are among them, with 16 publishes of 1,000 bytes in flight each, to as many readers. Without it
+`flood`'s are missing, which take all that two processors have.
+
 The server takes its memory as examples/run-serve has it: from libjemalloc2, if that is installed and ALLOCATOR isn't `libc`.
 """
 import importlib.machinery
@@ -19,6 +22,7 @@ import importlib.util
 import os
 import signal
 import sys
+import tempfile
 import time
 
 import burst_own_node
@@ -35,6 +39,7 @@ import silent_connections
 import slow_leaves
 import stale
 import turn_budget
+from flood import IN_FLIGHT, Crowd, crowd_made_in
 from memory_back import is_given_back
 from peers import Apart, Closed, Fails, Healthy, Server, faults_in_words, longest_ping, millis, run
 from watch import healthy_and_late, in_words, looks
@@ -47,6 +52,7 @@ LEAVING = 15        # seconds before a life's end at which its healthy clients l
 MORE, SPARE, OPEN = 1.25, 16 << 20, 100
 SIZES = {"": 100, "long": 1_000}    # of streams by minutes: `recoveries` has 90 publications held
 CHANNELS = 200_000  # of `many_channels`
+FLOOD = 1_000       # bytes that each publisher of a flood sends at a time
 
 
 def again(ready, attack, port, seconds):
@@ -69,15 +75,30 @@ def again(ready, attack, port, seconds):
     return times
 
 
-def attacks_on(server, seconds):
-    return [Apart(again, it.attack, server.ports[at % NODES], seconds) for at, it in enumerate(HOSTILE)]
+def floods(ready, ports, count, seconds):
+    """So many publishers that flood, and as many who read, until this process is killed: then their standard input ends."""
+    with tempfile.TemporaryDirectory() as folder:
+        made = crowd_made_in(folder)
+        readers = Crowd(made, "reads", ports, "flooded", count)
+        publishers = Crowd(made, "floods", ports, "flooded", count, FLOOD, IN_FLIGHT)
+    ready()
+    publishers.begin()
+    time.sleep(seconds)
+    return publishers.end(), readers.end()
 
 
-def minute(program, seconds, clients):
+def attacks_on(server, seconds, flood):
+    attacks = [Apart(again, it.attack, server.ports[at % NODES], seconds) for at, it in enumerate(HOSTILE)]
+    if flood:
+        attacks.append(Apart(floods, server.ports, flood, seconds))
+    return attacks
+
+
+def minute(program, seconds, clients, flood):
     """All of them at once, for so long."""
     with Server(program, nodes=NODES) as server:
         others = Healthy(server.ports, clients)
-        attacks = attacks_on(server, seconds + 5)
+        attacks = attacks_on(server, seconds + 5, flood)
         pings = [Apart(longest_ping, port, seconds) for port in server.ports]
         others.follow(seconds)
         waits = [ping.result() for ping in pings]
@@ -85,9 +106,13 @@ def minute(program, seconds, clients):
             attack.kill()
         status = server.process.poll()
     faults = others.faults + ([f"serve ended with {status}"] if status is not None else [])
-    return not faults, (f"{len(HOSTILE)} hostile clients for {seconds:.0f} s beside {clients} healthy ones, {others.sent:,} publications: "
+    return not faults, (f"{in_number(flood)} for {seconds:.0f} s beside {clients} healthy ones, {others.sent:,} publications: "
                         f"{faults_in_words(faults)}; the longest wait from publish to push {millis(others.longest)}, "
                         f"for a ping's answer {millis(max(waits))}")
+
+
+def in_number(flood):
+    return f"{len(HOSTILE)} hostile clients" + (f" and {flood} who flood" if flood else "")
 
 
 def module_of_histories():
@@ -115,7 +140,7 @@ def held(members, server):
 class Life:
     """One life of the server: what went wrong in it, what it held, and which waits were long."""
 
-    def __init__(self, program, histories, members, seconds, clients, is_last):
+    def __init__(self, program, histories, members, seconds, clients, is_last, flood):
         self.faults, self.positions, self.longest = [], None, 0
         namespaces = ";".join(f"{name}={size},2592000,phs" for name, size in SIZES.items())
         with Server(program, NODES, ["--ns", namespaces, "--stale", "25"]) as server:
@@ -127,9 +152,9 @@ class Life:
                 publisher.due = 0
                 publisher.turn()
             others = Apart(healthy_and_late, server.ports, clients, max(5, seconds - LEAVING))
-            attacks = attacks_on(server, seconds + 600)
+            attacks = attacks_on(server, seconds + 600, flood)
             self.faults += [f"{it.early}" for it in attacks if it.early is not None]
-            beside = {it.__name__: attack.process.pid for it, attack in zip(HOSTILE, attacks)}
+            beside = {it.__name__: attack.process.pid for it, attack in zip([*HOSTILE, floods], attacks)}
             beside.update({"the healthy clients": others.process.pid, "who come and go": os.getpid()})
             watch = Apart(looks, server.process.pid, beside, seconds)
             self.follow(histories, members, server, seconds)
@@ -182,7 +207,7 @@ def judge_life(judge, members):
         member.events.clear()
 
 
-def long_run(program, seconds, clients, restart):
+def long_run(program, seconds, clients, restart, flood):
     """Lives of the server, one after another, and what all clients got."""
     signal.alarm(int(2 * seconds) + 600)
     library = "libjemalloc2" if is_given_back() else "the C library"
@@ -190,25 +215,25 @@ def long_run(program, seconds, clients, restart):
     members = histories.Run(program, NODES, MEMBERS)
     judge, lives, count = histories.Judge(members.history()), [], max(1, round(seconds / restart))
     for at in range(count):
-        lives.append(Life(program, histories, members, seconds / count, clients, at == count - 1))
+        lives.append(Life(program, histories, members, seconds / count, clients, at == count - 1, flood))
         judge_life(judge, members)
         tell(lives, judge)
     history = members.history()
     faults = [fault for life in lives for fault in life.faults] + judge.faults
     faults += histories.arrived(history, lives[-1].positions)
     acknowledged = sum(life["acked"] for known in history["lives"].values() for life in known)
-    return not faults, (f"{len(HOSTILE)} hostile clients for {seconds / 60:.0f} minutes, {count} lives, beside {clients} healthy ones and {MEMBERS} who come and "
+    return not faults, (f"{in_number(flood)} for {seconds / 60:.0f} minutes, {count} lives, beside {clients} healthy ones and {MEMBERS} who come and "
                         f"go: {faults_in_words(faults)}; {acknowledged:,} publications, {judge.recovered + judge.lost} recoveries ({judge.lost} lost), "
                         f"{judge.ended} times 2500; the longest wait from publish to push {millis(max(life.longest for life in lives))}, "
                         f"{sum(len(life.late) for life in lives)} times over two seconds; memory from {library}: "
                         + "; ".join(life.held for life in lives))
 
 
-def check(program, seconds, clients, minutes, restart):
+def check(program, seconds, clients, minutes, restart, flood):
     if minutes:
-        return long_run(program, 60 * minutes, clients, 60 * restart)
-    return minute(program, seconds, clients)
+        return long_run(program, 60 * minutes, clients, 60 * restart, flood)
+    return minute(program, seconds, clients, flood)
 
 
 if __name__ == "__main__":
-    run(check, 60, clients=50, minutes=0, restart=10)
+    run(check, 60, clients=50, minutes=0, restart=10, flood=0)
