@@ -3,3 +3,4 @@ pub mod Growing
 pub mod Handing
 pub mod Owning
 pub mod Turning
+pub mod Waiting
