@@ -54,7 +54,7 @@ fn find(alloc: Global, table: Table, text: &str) -> Result<Option<CommandError>,
     for (before, entry) in text.split(';').enumerate() {
         let rule = match broken(alloc, table, entry)? {
             Some(rule) => Some(rule),
-            None => note_name(alloc, table, entry, &mut names)?,
+            None => keep_name(alloc, table, entry, &mut names)?,
         };
         if let Some(rule) = rule {
             return Ok(Some(CommandError::Entry {
@@ -117,8 +117,8 @@ fn broken_of_token(alloc: Global, entry: &str) -> Result<Option<&'static str>, A
     Ok(None)
 }
 
-// Notes what stands before an entry's `=`. The rule that the entry breaks, if an earlier one has the same there.
-fn note_name(
+// Keeps what stands before an entry's `=`. The rule that the entry breaks, if an earlier one has the same there.
+fn keep_name(
     alloc: Global,
     table: Table,
     entry: &str,

@@ -222,7 +222,7 @@ fn add_node<'a, N: Naming, R: Net + AllocGlobal>(
     opened.nodes.push(node).map_err(CommandError::from)
 }
 
-// Listens at the node's port, and notes where, since a port may be any that is free.
+// Listens at the node's port, and keeps where, since a port may be any that is free.
 fn listen<R: Net>(
     rt: &R,
     options: ServeOptions<'_>,

@@ -126,19 +126,19 @@ module _ {B C N M : Type 0} (R : List ℕ → ℕ → Option Reading → B → C
           put_alike c (Ready id (is_some since) r (w.with_read k)) (Ready id' (is_some since') r (v.with_read k')) a b
           (e.0, ap is_some e.1, refl, with_read id k k' e.2) h
       read_alike (Ready id was x k) (Ready id' was' x' k') a b e h = h
-      read_alike (On p mark) (On p' mark') a b e h = h
+      read_alike (On p behind_at) (On p' behind_at') a b e h = h
       read_alike Off (Asked id since k) a b e h = absurd e
       read_alike Off (Ready id was x k) a b e h = absurd e
-      read_alike Off (On p mark) a b e h = absurd e
+      read_alike Off (On p behind_at) a b e h = absurd e
       read_alike (Asked id since k) Off a b e h = absurd e
       read_alike (Asked id since k) (Ready id' was x k') a b e h = absurd e
-      read_alike (Asked id since k) (On p mark) a b e h = absurd e
+      read_alike (Asked id since k) (On p behind_at) a b e h = absurd e
       read_alike (Ready id was x k) Off a b e h = absurd e
       read_alike (Ready id was x k) (Asked id' since k') a b e h = absurd e
-      read_alike (Ready id was x k) (On p mark) a b e h = absurd e
-      read_alike (On p mark) Off a b e h = absurd e
-      read_alike (On p mark) (Asked id since k) a b e h = absurd e
-      read_alike (On p mark) (Ready id was x k) a b e h = absurd e
+      read_alike (Ready id was x k) (On p behind_at) a b e h = absurd e
+      read_alike (On p behind_at) Off a b e h = absurd e
+      read_alike (On p behind_at) (Asked id since k) a b e h = absurd e
+      read_alike (On p behind_at) (Ready id was x k) a b e h = absurd e
 
       pub reads_alike : (a : SessionState B N) (b : SessionState C M) → Alike R S a b
           → Alike R S (reads w c r a) (reads v c r b)
@@ -149,13 +149,13 @@ module _ {B C N M : Type 0} (R : List ℕ → ℕ → Option Reading → B → C
     module _ (c : List ℕ) (q : Position) (place : S (w.place c q) (v.place c q)) (end : S (w.end c) (v.end c))
         (with_one : (id : ℕ) (x : Option Reading) (k : B) (k' : C) → R c id x k k'
         → R c id x (w.with_one q k) (v.with_one q k')) where
-      verdict_alike : (x : Verdict) (mark : Option ℕ) (a : SessionState B N) (b : SessionState C M) → Alike R S a b
-          → Alike R S (by_verdict w c q mark x a) (by_verdict v c q mark x b)
-      verdict_alike Drop mark a b h = h
-      verdict_alike Pass mark a b h =
-          push_alike (w.place c q) (v.place c q) (put_sub c (On q mark) a) (put_sub c (On q mark) b) place
-          (put_alike c (On q mark) (On q mark) a b (refl, refl) h)
-      verdict_alike Insufficient mark a b h =
+      verdict_alike : (x : Verdict) (behind_at : Option ℕ) (a : SessionState B N) (b : SessionState C M) → Alike R S a b
+          → Alike R S (by_verdict w c q behind_at x a) (by_verdict v c q behind_at x b)
+      verdict_alike Drop behind_at a b h = h
+      verdict_alike Pass behind_at a b h =
+          push_alike (w.place c q) (v.place c q) (put_sub c (On q behind_at) a) (put_sub c (On q behind_at) b) place
+          (put_alike c (On q behind_at) (On q behind_at) a b (refl, refl) h)
+      verdict_alike Insufficient behind_at a b h =
           push_alike (w.end c) (v.end c) (put_sub c Off a) (put_sub c Off b) end (put_alike c Off Off a b tt h)
 
       come_alike : (s : Subscription B) (s' : Subscription C) (a : SessionState B N) (b : SessionState C M)
@@ -167,23 +167,23 @@ module _ {B C N M : Type 0} (R : List ℕ → ℕ → Option Reading → B → C
       come_alike (Ready id was x k) (Ready id' was' x' k') a b e h =
           put_alike c (Ready id was x (w.with_one q k)) (Ready id' was' x' (v.with_one q k')) a b
           (e.0, e.1, e.2, with_one id (Some x) k k' e.3) h
-      come_alike (On p mark) (On p' mark') a b e h =
-          subst (λ (x : Position). Alike R S (by_verdict w c q mark (verdict p q) a)
-          (by_verdict v c q mark' (verdict x q) b)) e.0
-          (subst (λ (x : Option ℕ). Alike R S (by_verdict w c q mark (verdict p q) a)
-          (by_verdict v c q x (verdict p q) b)) e.1 (verdict_alike (verdict p q) mark a b h))
+      come_alike (On p behind_at) (On p' behind_at') a b e h =
+          subst (λ (x : Position). Alike R S (by_verdict w c q behind_at (verdict p q) a)
+          (by_verdict v c q behind_at' (verdict x q) b)) e.0
+          (subst (λ (x : Option ℕ). Alike R S (by_verdict w c q behind_at (verdict p q) a)
+          (by_verdict v c q x (verdict p q) b)) e.1 (verdict_alike (verdict p q) behind_at a b h))
       come_alike Off (Asked id since k) a b e h = absurd e
       come_alike Off (Ready id was x k) a b e h = absurd e
-      come_alike Off (On p mark) a b e h = absurd e
+      come_alike Off (On p behind_at) a b e h = absurd e
       come_alike (Asked id since k) Off a b e h = absurd e
       come_alike (Asked id since k) (Ready id' was x k') a b e h = absurd e
-      come_alike (Asked id since k) (On p mark) a b e h = absurd e
+      come_alike (Asked id since k) (On p behind_at) a b e h = absurd e
       come_alike (Ready id was x k) Off a b e h = absurd e
       come_alike (Ready id was x k) (Asked id' since k') a b e h = absurd e
-      come_alike (Ready id was x k) (On p mark) a b e h = absurd e
-      come_alike (On p mark) Off a b e h = absurd e
-      come_alike (On p mark) (Asked id since k) a b e h = absurd e
-      come_alike (On p mark) (Ready id was x k) a b e h = absurd e
+      come_alike (Ready id was x k) (On p behind_at) a b e h = absurd e
+      come_alike (On p behind_at) Off a b e h = absurd e
+      come_alike (On p behind_at) (Asked id since k) a b e h = absurd e
+      come_alike (On p behind_at) (Ready id was x k) a b e h = absurd e
 
       pub comes_alike : (a : SessionState B N) (b : SessionState C M) → Alike R S a b
           → Alike R S (comes w c q a) (comes v c q b)
@@ -204,23 +204,23 @@ module _ {B C N M : Type 0} (R : List ℕ → ℕ → Option Reading → B → C
       check_alike Off Off a b e h = h
       check_alike (Asked id since k) (Asked id' since' k') a b e h = h
       check_alike (Ready id was x k) (Ready id' was' x' k') a b e h = h
-      check_alike (On p mark) (On p' mark') a b e h =
-          subst (λ (x : Position). Alike R S (by_check w c p (position_check top p mark) a)
-          (by_check v c x (position_check top x mark') b)) e.0
-          (subst (λ (x : Option ℕ). Alike R S (by_check w c p (position_check top p mark) a)
-          (by_check v c p (position_check top p x) b)) e.1 (by_check_alike (position_check top p mark) p a b h))
+      check_alike (On p behind_at) (On p' behind_at') a b e h =
+          subst (λ (x : Position). Alike R S (by_check w c p (position_check top p behind_at) a)
+          (by_check v c x (position_check top x behind_at') b)) e.0
+          (subst (λ (x : Option ℕ). Alike R S (by_check w c p (position_check top p behind_at) a)
+          (by_check v c p (position_check top p x) b)) e.1 (by_check_alike (position_check top p behind_at) p a b h))
       check_alike Off (Asked id since k) a b e h = absurd e
       check_alike Off (Ready id was x k) a b e h = absurd e
-      check_alike Off (On p mark) a b e h = absurd e
+      check_alike Off (On p behind_at) a b e h = absurd e
       check_alike (Asked id since k) Off a b e h = absurd e
       check_alike (Asked id since k) (Ready id' was x k') a b e h = absurd e
-      check_alike (Asked id since k) (On p mark) a b e h = absurd e
+      check_alike (Asked id since k) (On p behind_at) a b e h = absurd e
       check_alike (Ready id was x k) Off a b e h = absurd e
       check_alike (Ready id was x k) (Asked id' since k') a b e h = absurd e
-      check_alike (Ready id was x k) (On p mark) a b e h = absurd e
-      check_alike (On p mark) Off a b e h = absurd e
-      check_alike (On p mark) (Asked id since k) a b e h = absurd e
-      check_alike (On p mark) (Ready id was x k) a b e h = absurd e
+      check_alike (Ready id was x k) (On p behind_at) a b e h = absurd e
+      check_alike (On p behind_at) Off a b e h = absurd e
+      check_alike (On p behind_at) (Asked id since k) a b e h = absurd e
+      check_alike (On p behind_at) (Ready id was x k) a b e h = absurd e
 
       pub checks_alike : (a : SessionState B N) (b : SessionState C M) → Alike R S a b
           → Alike R S (checks w c top a) (checks v c top b)

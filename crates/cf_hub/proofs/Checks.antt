@@ -3,7 +3,7 @@ use Rattle.std.proofs.Common.{◌≡◌, ◌≢◌, ◌⊎◌, inl, inr, Bool, t
 use Rattle.std.proofs.Common.{subst, option_map, is_some}
 use Rattle.cf_protocol.specs.Position.{Position}
 use Rattle.cf_queue.specs.OutQueue.{OutQueue, Item, Text, Close}
-use Rattle.cf_hub.specs.Checked.{answer_of, check_answer, mark_after, marked, place_of, stand_of}
+use Rattle.cf_hub.specs.Checked.{answer_of, check_answer, behind_after, after_check, position_in, stand_of}
 use Rattle.cf_model.specs.Recovery.{Checked, Fine, Behind, Ended, position_check}
 use Rattle.cf_model.specs.Sessions.{Subscription, Off, Asked, Ready, On, SessionState, by_check, check_at, checks}
 use Rattle.cf_model.specs.Sessions.{closes, is_off, no_memory, push, put_sub}
@@ -20,11 +20,11 @@ use Rattle.cf_hub.proofs.Replies.{with_twice}
 use Rattle.cf_hub.proofs.States.{puts_off}
 
 -- what has a place stands
-pub is_placed : (x : Subscription Held) → is_some (place_of x) ≡ is_some (stand_of x)
+pub is_placed : (x : Subscription Held) → is_some (position_in x) ≡ is_some (stand_of x)
 is_placed Off = refl
 is_placed (Asked id since b) = refl
 is_placed (Ready id was r b) = refl
-is_placed (On at mark) = refl
+is_placed (On at behind_at) = refl
 
 one_answer : (u v : Checked) → answer_of u ≡ answer_of v → u ≡ v
 one_answer Fine Fine e = refl
@@ -38,7 +38,7 @@ one_answer Ended Fine e = absurd (cc)
 one_answer Ended Behind e = absurd (cc)
 
 module _ (c : List ℕ) (top : Option Position) (m n : Subscriptions) (q : OutQueue) (a : Answer)
-    (sets : SetsAt m n c (option_map (marked a) (progress_at m c))) (is : a ≡ check_answer top (subs_of m c)) where
+    (sets : SetsAt m n c (option_map (after_check a) (progress_at m c))) (is : a ≡ check_answer top (subs_of m c)) where
   abbrev old : SessionState Held Item
   old = with_queue (subs_of m) q
 
@@ -46,36 +46,37 @@ module _ (c : List ℕ) (top : Option Position) (m n : Subscriptions) (q : OutQu
   same o e h = same_state m n c q (subst (λ w. SetsAt m n c w) e h)
 
   -- all is well, or there was nothing to check
-  goes_on : (o : Option Progress) → o ≡ progress_at m c → SetsAt m n c (option_map (marked a) o)
+  goes_on : (o : Option Progress) → o ≡ progress_at m c → SetsAt m n c (option_map (after_check a) o)
       → a ≡ check_answer top (sub_of o) → a ≢ answer.Ended
       → with_queue (subs_of n) q ≡ check_at plain c top (sub_of o) old
   goes_on None e h is going = same None e h
   goes_on (Some (code.Asked id since waiting)) e h is going = same (Some (code.Asked id since waiting)) e h
   goes_on (Some (code.Ready id was recovery waiting)) e h is going =
       same (Some (code.Ready id was recovery waiting)) e h
-  goes_on (Some (code.On at mark)) e h is going =
-      put_state m n c (Some (code.On at (mark_after a at))) q h ∙ by_answer (position_check top at mark) is
+  goes_on (Some (code.On at behind_at)) e h is going =
+      put_state m n c (Some (code.On at (behind_after a at))) q h ∙ by_answer (position_check top at behind_at) is
     where
-      by_answer : (v : Checked) → a ≡ answer_of v → put_sub c (On at (mark_after a at)) old ≡ by_check plain c at v old
-      by_answer Fine e = ap (λ b. put_sub c (On at (mark_after b at)) old) e
-      by_answer Behind e = ap (λ b. put_sub c (On at (mark_after b at)) old) e
+      by_answer : (v : Checked) → a ≡ answer_of v → put_sub c (On at (behind_after a at)) old
+          ≡ by_check plain c at v old
+      by_answer Fine e = ap (λ b. put_sub c (On at (behind_after b at)) old) e
+      by_answer Behind e = ap (λ b. put_sub c (On at (behind_after b at)) old) e
       by_answer Ended e = absurd (going e)
 
   pub checked : a ≢ answer.Ended → with_queue (subs_of n) q ≡ checks plain c top old
   checked going = goes_on (progress_at m c) refl sets is going
 
-  -- it ends, whatever its mark is
-  ends : (o : Option Progress) → SetsAt m n c (option_map (marked a) o) → a ≡ check_answer top (sub_of o)
+  -- it ends, wherever it was found behind
+  ends : (o : Option Progress) → SetsAt m n c (option_map (after_check a) o) → a ≡ check_answer top (sub_of o)
       → a ≡ answer.Ended
       → (check_at plain c top (sub_of o) old ≡ push plain (Text (end_text c)) (put_sub c Off old))
       × (put_sub c Off (with_queue (subs_of n) q) ≡ put_sub c Off old)
   ends None h is e = absurd (let other = sym is ∙ e in cc)
   ends (Some (code.Asked id since waiting)) h is e = absurd (let other = sym is ∙ e in cc)
   ends (Some (code.Ready id was recovery waiting)) h is e = absurd (let other = sym is ∙ e in cc)
-  ends (Some (code.On at mark)) h is e = (
-    ap (λ v. by_check plain c at v old) (one_answer (position_check top at mark) Ended (sym is ∙ e)),
-    ap (put_sub c Off) (put_state m n c (Some (code.On at (mark_after a at))) q h)
-        ∙ with_twice c Off (On at (mark_after a at)) old,
+  ends (Some (code.On at behind_at)) h is e = (
+    ap (λ v. by_check plain c at v old) (one_answer (position_check top at behind_at) Ended (sym is ∙ e)),
+    ap (put_sub c Off) (put_state m n c (Some (code.On at (behind_after a at))) q h)
+        ∙ with_twice c Off (On at (behind_after a at)) old,
   )
 
   pub left : a ≡ answer.Ended → (mid : SessionState Held Item) → mid ≡ put_sub c Off (with_queue (subs_of n) q)
@@ -98,17 +99,18 @@ module _ (c : List ℕ) (top : Option Position) (m n : Subscriptions) (q : OutQu
         },
       )
 
-  -- a mark turns nothing off
-  stays : (d : List ℕ) (o : Option Progress) → o ≡ progress_at m c → SetsAt m n c (option_map (marked a) o)
+  -- to be found behind turns nothing off
+  stays : (d : List ℕ) (o : Option Progress) → o ≡ progress_at m c → SetsAt m n c (option_map (after_check a) o)
       → is_off (subs_of n d) ≡ is_off (subs_of m d)
   stays d None e h = ap (λ (x : SessionState Held Item). is_off (x.subs d)) (same None e h)
   stays d (Some (code.Asked id since waiting)) e h =
       ap (λ (x : SessionState Held Item). is_off (x.subs d)) (same (Some (code.Asked id since waiting)) e h)
   stays d (Some (code.Ready id was recovery waiting)) e h =
       ap (λ (x : SessionState Held Item). is_off (x.subs d)) (same (Some (code.Ready id was recovery waiting)) e h)
-  stays d (Some (code.On at mark)) e h =
-      ap (λ (x : SessionState Held Item). is_off (x.subs d)) (put_state m n c (Some (code.On at (mark_after a at))) q h)
-      ∙ puts_off c d (On at (mark_after a at)) old refl (ap (λ o. is_off (sub_of o)) (sym e))
+  stays d (Some (code.On at behind_at)) e h =
+      ap (λ (x : SessionState Held Item). is_off (x.subs d))
+      (put_state m n c (Some (code.On at (behind_after a at))) q h)
+      ∙ puts_off c d (On at (behind_after a at)) old refl (ap (λ o. is_off (sub_of o)) (sym e))
 
   pub still_on : (d : List ℕ) → is_off (subs_of n d) ≡ is_off (subs_of m d)
   still_on d = stays d (progress_at m c) refl sets

@@ -53,7 +53,7 @@ on_none : (p : Placed) (c : List ℕ) (q : Position) (s : Subscription Held) (l 
 on_none p c q Off l e h = sym (ap (λ s. come_at (delivering p) c q s l) e)
 on_none p c q (Asked id since b) l e h = absurd (cc)
 on_none p c q (Ready id was r b) l e h = absurd (cc)
-on_none p c q (On at mark) l e h = absurd (cc)
+on_none p c q (On at behind_at) l e h = absurd (cc)
 
 -- who does not follow the channel is served by doing nothing
 no_subscriber : (refused : Bool) (p : Placed) (c e : List ℕ) (o : Option Attached) → is_off (sub_in o c) ≡ true
@@ -310,9 +310,9 @@ module _ (p : Placed) (c e : List ℕ) (old : Node) (now : Sessions) (refused : 
       still_none (Some a) h = absurd (cc)
 
 -- a refused request before the first session
-pub noted : (p : Placed) (c e : List ℕ) (n : ℕ) (old mid new : Node)
+pub refusal_counted : (p : Placed) (c e : List ℕ) (n : ℕ) (old mid new : Node)
     → mid ≡ record old { refused = counted n old.refused } → Delivers c e p mid new → Delivers c e p old new
-noted p c e n old mid new is d =
+refusal_counted p c e n old mid new is d =
     record {
       hit = d.hit;
       hit_follow = λ k m. subst (λ (h : Node). is_off (sub_in (attached_at h k) c) ≡ false) is (d.hit_follow k m);

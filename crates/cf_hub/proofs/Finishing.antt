@@ -48,7 +48,7 @@ pub not_ready : (r : Bool) (c : List ℕ) (a b : SessionState Held Item) (x : Su
 not_ready r c a b Off e h = h
 not_ready r c a b (Asked id since k) e h = h
 not_ready r c a b (Ready id was x k) e h = absurd (cc)
-not_ready r c a b (On at mark) e h = h
+not_ready r c a b (On at behind_at) e h = h
 
 module _ (a : Answered) (c : List ℕ) (old mid : SessionState Held Item) (h : IsAnswered a c old mid) where
   abbrev held_now : Held

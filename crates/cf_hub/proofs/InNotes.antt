@@ -131,19 +131,19 @@ module _ {lists more : Lists} (g : Grown lists more) where
   sub_grows c Off Off e = tt
   sub_grows c (Asked id since k) (Asked id' since' k') e = (e.0, e.1, kept_grows c id None k k' e.2)
   sub_grows c (Ready id was x k) (Ready id' was' x' k') e = (e.0, e.1, e.2, kept_grows c id (Some x) k k' e.3)
-  sub_grows c (On p mark) (On p' mark') e = e
+  sub_grows c (On p behind_at) (On p' behind_at') e = e
   sub_grows c Off (Asked id since k) e = absurd e
   sub_grows c Off (Ready id was x k) e = absurd e
-  sub_grows c Off (On p mark) e = absurd e
+  sub_grows c Off (On p behind_at) e = absurd e
   sub_grows c (Asked id since k) Off e = absurd e
   sub_grows c (Asked id since k) (Ready id' was x k') e = absurd e
-  sub_grows c (Asked id since k) (On p mark) e = absurd e
+  sub_grows c (Asked id since k) (On p behind_at) e = absurd e
   sub_grows c (Ready id was x k) Off e = absurd e
   sub_grows c (Ready id was x k) (Asked id' since k') e = absurd e
-  sub_grows c (Ready id was x k) (On p mark) e = absurd e
-  sub_grows c (On p mark) Off e = absurd e
-  sub_grows c (On p mark) (Asked id since k) e = absurd e
-  sub_grows c (On p mark) (Ready id was x k) e = absurd e
+  sub_grows c (Ready id was x k) (On p behind_at) e = absurd e
+  sub_grows c (On p behind_at) Off e = absurd e
+  sub_grows c (On p behind_at) (Asked id since k) e = absurd e
+  sub_grows c (On p behind_at) (Ready id was x k) e = absurd e
 
   pub session_grows : (a : SessionState Held Item) (b : SessionState (List Position) Note) → SaysSession lists a b
       → SaysSession more a b
@@ -360,7 +360,7 @@ module _
       → SaysSession lists a b → SaysSession lists new (finish_at (spoken lists) c s' b)
   finish_by Off Off a new b e f h = stays a new b f h
   finish_by (Asked id since k) (Asked id' since' k') a new b e f h = stays a new b f h
-  finish_by (On p mark) (On p' mark') a new b e f h = stays a new b f h
+  finish_by (On p behind_at) (On p' behind_at') a new b e f h = stays a new b f h
   finish_by (Ready id was r k) (Ready id' was' r' k') a new b e f h =
       subst (λ (i : ℕ). SaysSession lists new (says (spoken lists) (finish_notes (spoken lists) c i was' r' k')
       (put_sub c (finished (spoken lists) r' k') b))) e.0
@@ -372,16 +372,16 @@ module _
       (finishes_so id was r k k' e.3 a new b f h)))
   finish_by Off (Asked id' since' k') a new b e f h = absurd e
   finish_by Off (Ready id' was' x' k') a new b e f h = absurd e
-  finish_by Off (On p' mark') a new b e f h = absurd e
+  finish_by Off (On p' behind_at') a new b e f h = absurd e
   finish_by (Asked id since k) Off a new b e f h = absurd e
   finish_by (Asked id since k) (Ready id' was' x' k') a new b e f h = absurd e
-  finish_by (Asked id since k) (On p' mark') a new b e f h = absurd e
+  finish_by (Asked id since k) (On p' behind_at') a new b e f h = absurd e
   finish_by (Ready id was x k) Off a new b e f h = absurd e
   finish_by (Ready id was x k) (Asked id' since' k') a new b e f h = absurd e
-  finish_by (Ready id was x k) (On p' mark') a new b e f h = absurd e
-  finish_by (On p mark) Off a new b e f h = absurd e
-  finish_by (On p mark) (Asked id' since' k') a new b e f h = absurd e
-  finish_by (On p mark) (Ready id' was' x' k') a new b e f h = absurd e
+  finish_by (Ready id was x k) (On p' behind_at') a new b e f h = absurd e
+  finish_by (On p behind_at) Off a new b e f h = absurd e
+  finish_by (On p behind_at) (Asked id' since' k') a new b e f h = absurd e
+  finish_by (On p behind_at) (Ready id' was' x' k') a new b e f h = absurd e
 
   pub finish_alike : (a new : SessionState Held Item) (b : SessionState (List Position) Note)
       → FinishesAt false c (a.subs c) a new → SaysSession lists a b

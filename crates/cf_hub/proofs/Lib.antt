@@ -21,7 +21,7 @@ pub mod AlikeMoves
 pub mod Settling
 pub mod Ending
 pub mod Counts
-pub mod Marks
+pub mod Flags
 pub mod Naming
 pub mod Placing
 pub mod Order

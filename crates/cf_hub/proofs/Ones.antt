@@ -99,4 +99,4 @@ reads_off w c r s d = by_sub (s.subs c) refl
     by_sub Off e = refl
     by_sub (Asked id since b) e = puts_off c d (Ready id (is_some since) r (w.with_read b)) s refl (ap is_off e)
     by_sub (Ready id was x b) e = refl
-    by_sub (On at mark) e = refl
+    by_sub (On at behind_at) e = refl

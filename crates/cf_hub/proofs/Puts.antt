@@ -86,7 +86,7 @@ fate_met : (q : Position) (o : Option Progress) → meeting q o ≡ meets.Buffer
 fate_met q None b = absurd (cc)
 fate_met q (Some (code.Asked id since waiting)) b = refl
 fate_met q (Some (code.Ready id was recovery waiting)) b = refl
-fate_met q (Some (code.On at mark)) b = absurd (cc)
+fate_met q (Some (code.On at behind_at)) b = absurd (cc)
 
 not_both : (t : Bool) (f : Fate) → (if not t && t then fate.Closed else f) ≡ f
 not_both true f = refl
@@ -127,7 +127,7 @@ module _ (m n : Subscriptions) (c : List ℕ) (q : OutQueue) (e : List ℕ) (p :
       put_state m n c (Some (takes e p (code.Asked id since waiting))) q h
   taken_at (Some (code.Ready id was recovery waiting)) b h =
       put_state m n c (Some (takes e p (code.Ready id was recovery waiting))) q h
-  taken_at (Some (code.On at mark)) b h = absurd (cc)
+  taken_at (Some (code.On at behind_at)) b h = absurd (cc)
 
   lost_at : (o : Option Progress) → meeting (at_offset e p) o ≡ meets.Buffer → SetsAt m n c (option_map loses o)
       → with_queue (subs_of n) q ≡ put_sub c (without_buffer (delivering p) (sub_of o)) (with_queue (subs_of m) q)
@@ -135,13 +135,13 @@ module _ (m n : Subscriptions) (c : List ℕ) (q : OutQueue) (e : List ℕ) (p :
   lost_at (Some (code.Asked id since waiting)) b h = put_state m n c (Some (loses (code.Asked id since waiting))) q h
   lost_at (Some (code.Ready id was recovery waiting)) b h =
       put_state m n c (Some (loses (code.Ready id was recovery waiting))) q h
-  lost_at (Some (code.On at mark)) b h = absurd (cc)
+  lost_at (Some (code.On at behind_at)) b h = absurd (cc)
 
   waits_at : (o : Option Progress) → meeting (at_offset e p) o ≡ meets.Buffer → is_unfinished (sub_of o) ≡ true
   waits_at None b = absurd (cc)
   waits_at (Some (code.Asked id since waiting)) b = refl
   waits_at (Some (code.Ready id was recovery waiting)) b = refl
-  waits_at (Some (code.On at mark)) b = absurd (cc)
+  waits_at (Some (code.On at behind_at)) b = absurd (cc)
 
   -- a publication is kept, or the buffer is given up
   pub kept : (r : Met) → meeting (at_offset e p) (progress_at m c) ≡ meets.Buffer
@@ -159,28 +159,28 @@ module _ (m n : Subscriptions) (c : List ℕ) (q : OutQueue) (e : List ℕ) (p :
   nothing_at None b = (refl, refl)
   nothing_at (Some (code.Asked id since waiting)) b = absurd (cc)
   nothing_at (Some (code.Ready id was recovery waiting)) b = absurd (cc)
-  nothing_at (Some (code.On at mark)) b = absurd (cc)
+  nothing_at (Some (code.On at behind_at)) b = absurd (cc)
 
   -- a finished subscription comes to what its verdict says, and what isn't the next one leaves it where it stands
   record Judged (v : Verdict) (o : Option Progress) : Type 0 where
-    pub mark : Option ℕ
+    pub behind_at : Option ℕ
     pub comes : come_at (delivering p) c (at_offset e p) (sub_of o) (with_queue (subs_of m) q)
-        ≡ by_verdict (delivering p) c (at_offset e p) mark v (with_queue (subs_of m) q)
-    pub passes : v ≡ Pass → option_map (takes e p) o ≡ Some (code.On (at_offset e p) mark)
+        ≡ by_verdict (delivering p) c (at_offset e p) behind_at v (with_queue (subs_of m) q)
+    pub passes : v ≡ Pass → option_map (takes e p) o ≡ Some (code.On (at_offset e p) behind_at)
     pub stays : v ≢ Pass → option_map (takes e p) o ≡ o
 
   judged : (v : Verdict) (o : Option Progress) → meeting (at_offset e p) o ≡ meets.On (verdict_code v) → Judged v o
   judged v None b = absurd (cc)
   judged v (Some (code.Asked id since waiting)) b = absurd (cc)
   judged v (Some (code.Ready id was recovery waiting)) b = absurd (cc)
-  judged v (Some (code.On at mark)) b =
+  judged v (Some (code.On at behind_at)) b =
       let is : verdict at (at_offset e p) ≡ v = met_verdict v (verdict at (at_offset e p)) b in
       record {
-        mark = mark;
-        comes = ap (λ x. by_verdict (delivering p) c (at_offset e p) mark x (with_queue (subs_of m) q)) is;
-        passes = λ y. ap (λ x. Some (code.On (stands_by x at (at_offset e p)) mark)) (is ∙ y);
-        stays = λ k. ap (λ x. Some (code.On (stands_by x at (at_offset e p)) mark)) is
-            ∙ ap (λ x. Some (code.On x mark)) (stands v k);
+        behind_at = behind_at;
+        comes = ap (λ x. by_verdict (delivering p) c (at_offset e p) behind_at x (with_queue (subs_of m) q)) is;
+        passes = λ y. ap (λ x. Some (code.On (stands_by x at (at_offset e p)) behind_at)) (is ∙ y);
+        stays = λ k. ap (λ x. Some (code.On (stands_by x at (at_offset e p)) behind_at)) is
+            ∙ ap (λ x. Some (code.On x behind_at)) (stands v k);
       }
     where
       stands : (v : Verdict) → v ≢ Pass → stands_by v at (at_offset e p) ≡ at
@@ -216,9 +216,10 @@ module _ (m n : Subscriptions) (c : List ℕ) (q : OutQueue) (e : List ℕ) (p :
       → Serves refused (delivering p) c (comes (delivering p) c (at_offset e p)) (with_queue (subs_of m) q) b
   passed refused b is h says =
       let at = judged Pass (progress_at m c) is in
-      spoken refused p c (at_offset e p) (On (at_offset e p) at.mark) (Text (push_text c p)) (with_queue (subs_of m) q)
+      spoken refused p c (at_offset e p) (On (at_offset e p) at.behind_at) (Text (push_text c p))
+      (with_queue (subs_of m) q)
       (with_queue (subs_of n) q) b at.comes
-      (put_state m n c (Some (code.On (at_offset e p) at.mark)) q
+      (put_state m n c (Some (code.On (at_offset e p) at.behind_at)) q
       (λ d. h d ∙ ap (λ o. cond (bytes_eq c d) o (progress_at m d)) (at.passes refl))) says
 
   -- something before it is missing: the subscription ends, and that is said

@@ -40,7 +40,7 @@ read_state m n c r q h = by_sub (progress_at m c) refl
         ∙ ap (λ o. cond (bytes_eq c d) o (progress_at m d)) (sym e))
         ∙ ap (λ o. read_at (reading r.publications.items) c (reading_of r) (sub_of o) (with_queue (subs_of m) q))
         (sym e)
-    by_sub (Some (code.On at mark)) e =
+    by_sub (Some (code.On at behind_at)) e =
         same_state m n c q (λ d. h d ∙ ap (λ o. cond (bytes_eq c d) (option_map (was_read r) o) (progress_at m d)) e
         ∙ ap (λ o. cond (bytes_eq c d) o (progress_at m d)) (sym e))
         ∙ ap (λ o. read_at (reading r.publications.items) c (reading_of r) (sub_of o) (with_queue (subs_of m) q))

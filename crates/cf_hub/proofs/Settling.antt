@@ -44,8 +44,8 @@ finished-in : (s : Progress) (b r : Bool) (o : Option Progress) → (finished s 
     → (r ≡ true → is_unfinished (sub_of o) ≡ false) → is_unfinished (sub_of (cond b (Some s) o)) ≡ false
 finished-in (code.Asked id since waiting) b r o h k = absurd (cc)
 finished-in (code.Ready id was recovery waiting) b r o h k = absurd (cc)
-finished-in (code.On at mark) true r o h k = refl
-finished-in (code.On at mark) false r o h k = k h
+finished-in (code.On at behind_at) true r o h k = refl
+finished-in (code.On at behind_at) false r o h k = k h
 
 ready_each : (es : Entries) → list_all finished-entry es ≡ true → (c : List ℕ) → is_unfinished (in_entries es c) ≡ false
 ready_each [] h c = refl
@@ -59,7 +59,7 @@ finished-head : (s : Progress) (b r : Bool) (o : Option Progress) → b ≡ true
     → is_unfinished (sub_of (cond b (Some s) o)) ≡ false → r ≡ true → (finished s && r) ≡ true
 finished-head (code.Asked id since waiting) true r o t h k = absurd (cc)
 finished-head (code.Ready id was recovery waiting) true r o t h k = absurd (cc)
-finished-head (code.On at mark) true r o t h k = k
+finished-head (code.On at behind_at) true r o t h k = k
 finished-head s false r o t h k = absurd (cc)
 
 abbrev Distinct : Entries → Type 0
@@ -111,7 +111,7 @@ ready m d = (λ t. ready_each m.entries (is-true _ t), λ h. true-is _ (each_rea
 one_on : (s : Progress) → is_off (sub_of (Some s)) ≡ false
 one_on (code.Asked id since waiting) = refl
 one_on (code.Ready id was recovery waiting) = refl
-one_on (code.On at mark) = refl
+one_on (code.On at behind_at) = refl
 
 first_on : (e : String Global × Box Progress Global) (es : Entries)
     → is_off (in_entries (e ∷ es) (string_bytes e.0)) ≡ false

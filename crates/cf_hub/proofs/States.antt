@@ -72,16 +72,17 @@ module _ {B N : Type 0} (c d : List ℕ) where
       → is_off ((push w n l).subs d) ≡ off_after (if not l.closed && (push w n l).closed then fate.Closed else f) c d z
   push_off w n l f z h = push_by l.closed (nat_le (sum_by w.weight l.notes + w.weight n) most_waiting) w n l f z refl h
 
-  verdict_off : (w : Wording B N) (q : Position) (mark : Option ℕ) (v : Verdict) (p : Position) (a : SessionState B N)
-      → a.subs c ≡ On p mark
-      → is_off ((by_verdict w c q mark v a).subs d)
-      ≡ off_after (if not a.closed && (by_verdict w c q mark v a).closed then fate.Closed else verdict_fate v) c d
+  verdict_off : (w : Wording B N) (q : Position) (behind_at : Option ℕ) (v : Verdict) (p : Position)
+      (a : SessionState B N)
+      → a.subs c ≡ On p behind_at
+      → is_off ((by_verdict w c q behind_at v a).subs d)
+      ≡ off_after (if not a.closed && (by_verdict w c q behind_at v a).closed then fate.Closed else verdict_fate v) c d
       (is_off (a.subs d))
-  verdict_off w q mark Drop p a s = stays c d a.closed fate.Dropped (is_off (a.subs d)) refl
-  verdict_off w q mark Pass p a s =
-      push_off w (w.place c q) (put_sub c (On q mark) a) fate.Passed (is_off (a.subs d))
-      (put_off (On q mark) a (sym (ap is_off s)))
-  verdict_off w q mark Insufficient p a s =
+  verdict_off w q behind_at Drop p a s = stays c d a.closed fate.Dropped (is_off (a.subs d)) refl
+  verdict_off w q behind_at Pass p a s =
+      push_off w (w.place c q) (put_sub c (On q behind_at) a) fate.Passed (is_off (a.subs d))
+      (put_off (On q behind_at) a (sym (ap is_off s)))
+  verdict_off w q behind_at Insufficient p a s =
       push_off w (w.end c) (put_sub c Off a) fate.Ended (is_off (a.subs d)) (end_by (bytes_eq d c) (a.subs d))
 
   come_off : (w : Wording B N) (q : Position) (s : Subscription B) (a : SessionState B N) → a.subs c ≡ s
@@ -94,7 +95,7 @@ module _ {B N : Type 0} (c d : List ℕ) where
   come_off w q (Ready id was r b) a e =
       put_off (Ready id was r (w.with_one q b)) a (sym (ap is_off e))
       ∙ stays c d a.closed fate.Kept (is_off (a.subs d)) refl
-  come_off w q (On p mark) a e = verdict_off w q mark (verdict p q) p a e
+  come_off w q (On p behind_at) a e = verdict_off w q behind_at (verdict p q) p a e
 
   moved_off : (w : Wording B N) (q : Position) (a b : SessionState B N) → b ≡ comes w c q a
       → is_off (b.subs d) ≡ off_after (fate_of c q a b) c d (is_off (a.subs d))
@@ -122,7 +123,7 @@ module _ {B N : Type 0} (c d : List ℕ) where
   without_by w q (Ready id was r b) a e u =
       put_off (Ready id was r (w.given_up b)) a (sym (ap is_off e))
       ∙ stays c d a.closed fate.Kept (is_off (a.subs d)) refl
-  without_by w q (On p mark) a e u = absurd (cc)
+  without_by w q (On p behind_at) a e u = absurd (cc)
 
   given_off : (w : Wording B N) (q : Position) (a b : SessionState B N) → GivesUp w c a b
       → is_off (b.subs d) ≡ off_after (fate_of c q a b) c d (is_off (a.subs d))

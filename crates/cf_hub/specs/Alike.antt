@@ -12,7 +12,7 @@ AlikeSub R Off Off = ⊤
 AlikeSub R (Asked id since b) (Asked id' since' b') = (id ≡ id') × (since ≡ since') × R id None b b'
 AlikeSub R (Ready id was r b) (Ready id' was' r' b') =
     (id ≡ id') × (was ≡ was') × (r ≡ r') × R id (Some r) b b'
-AlikeSub R (On p mark) (On p' mark') = (p ≡ p') × (mark ≡ mark')
+AlikeSub R (On p behind_at) (On p' behind_at') = (p ≡ p') × (behind_at ≡ behind_at')
 AlikeSub R s s' = ⊥
 
 pub record Alike {B C N M : Type 0} (R : List ℕ → ℕ → Option Reading → B → C → Type 0)

@@ -7,4 +7,4 @@ abbrev pub asked_of : {B : Type 0} → Subscription B → Option Answer
 asked_of Off = None
 asked_of (Asked id since b) = Some (record { since = since })
 asked_of (Ready id was r b) = None
-asked_of (On at mark) = None
+asked_of (On at behind_at) = None

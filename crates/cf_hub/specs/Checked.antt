@@ -18,34 +18,34 @@ abbrev pub check_answer : {B : Type 0} → Option Position → Subscription B �
 check_answer top Off = answer.Nothing
 check_answer top (Asked id since b) = answer.Nothing
 check_answer top (Ready id was r b) = answer.Nothing
-check_answer top (On p mark) = answer_of (position_check top p mark)
+check_answer top (On p behind_at) = answer_of (position_check top p behind_at)
 
--- the mark of a finished subscription after a check that answers so
-abbrev pub mark_after : Answer → Position → Option ℕ
-mark_after answer.Nothing at = None
-mark_after answer.Fine at = None
-mark_after answer.Behind at = Some at.offset
-mark_after answer.Ended at = None
+-- where a finished subscription was found behind, after a check that answers so
+abbrev pub behind_after : Answer → Position → Option ℕ
+behind_after answer.Nothing at = None
+behind_after answer.Fine at = None
+behind_after answer.Behind at = Some at.offset
+behind_after answer.Ended at = None
 
-abbrev pub marked : Answer → Progress → Progress
-marked a (code.Asked id since waiting) = code.Asked id since waiting
-marked a (code.Ready id was recovery waiting) = code.Ready id was recovery waiting
-marked a (code.On at mark) = code.On at (mark_after a at)
+abbrev pub after_check : Answer → Progress → Progress
+after_check a (code.Asked id since waiting) = code.Asked id since waiting
+after_check a (code.Ready id was recovery waiting) = code.Ready id was recovery waiting
+after_check a (code.On at behind_at) = code.On at (behind_after a at)
 
--- where a finished subscription stands, with its mark
+-- where a finished subscription stands, and where it was found behind
 pub record Stand : Type 0 where
   pub at : Position
-  pub mark : Option ℕ
+  pub behind_at : Option ℕ
 
 abbrev pub stand_of : {B : Type 0} → Subscription B → Option Stand
 stand_of Off = None
 stand_of (Asked id since b) = None
 stand_of (Ready id was r b) = None
-stand_of (On at mark) = Some (record { at = at; mark = mark })
+stand_of (On at behind_at) = Some (record { at = at; behind_at = behind_at })
 
 -- where a finished subscription stands
-abbrev pub place_of : {B : Type 0} → Subscription B → Option Position
-place_of Off = None
-place_of (Asked id since b) = None
-place_of (Ready id was r b) = None
-place_of (On at mark) = Some at
+abbrev pub position_in : {B : Type 0} → Subscription B → Option Position
+position_in Off = None
+position_in (Asked id since b) = None
+position_in (Ready id was r b) = None
+position_in (On at behind_at) = Some at

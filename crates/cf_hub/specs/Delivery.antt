@@ -17,7 +17,7 @@ abbrev pub sub_fate : {B : Type 0} → Position → Subscription B → Fate
 sub_fate q Off = Dropped
 sub_fate q (Asked id since b) = Kept
 sub_fate q (Ready id was r b) = Kept
-sub_fate q (On p mark) = verdict_fate (verdict p q)
+sub_fate q (On p behind_at) = verdict_fate (verdict p q)
 
 -- closed if the call closed it, else this
 abbrev pub fate_or : {B N : Type 0} → SessionState B N → SessionState B N → Fate → Fate

@@ -23,4 +23,4 @@ abbrev pub FinishesAt : Bool → List ℕ → Subscription Held → SessionState
 FinishesAt refused c Off a b = b ≡ a
 FinishesAt refused c (Asked id since h) a b = b ≡ a
 FinishesAt refused c (Ready id was r h) a b = Finishes refused c id was r h a b
-FinishesAt refused c (On at mark) a b = b ≡ a
+FinishesAt refused c (On at behind_at) a b = b ≡ a

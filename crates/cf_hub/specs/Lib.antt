@@ -17,4 +17,4 @@ pub mod InNotes
 pub mod AlikeMoves
 pub mod Counts
 pub mod Turns
-pub mod Marks
+pub mod Flags

@@ -16,7 +16,7 @@ use Rattle.cf_hub.specs.declared.subscription.Progress.TheVariants as code
 abbrev pub was_read : Recovery → Progress → Progress
 was_read r (code.Asked id since waiting) = code.Ready id (is_some since) r waiting
 was_read r (code.Ready id was recovery waiting) = code.Ready id was recovery waiting
-was_read r (code.On at mark) = code.On at mark
+was_read r (code.On at behind_at) = code.On at behind_at
 
 -- where the subscription stands after its reply and what follows it
 abbrev pub stands : Answered → Progress

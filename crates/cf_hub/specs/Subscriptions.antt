@@ -54,7 +54,7 @@ sub_of None = Off
 sub_of (Some (code.Asked id since waiting)) = Asked id since (held waiting [])
 sub_of (Some (code.Ready id was recovery waiting)) =
     Ready id was (reading_of recovery) (held waiting recovery.publications.items)
-sub_of (Some (code.On at mark)) = On at mark
+sub_of (Some (code.On at behind_at)) = On at behind_at
 
 -- new has w at the channel, and elsewhere what old has
 abbrev pub SetsAt : Subscriptions → Subscriptions → List ℕ → Option Progress → Type 0
@@ -73,13 +73,13 @@ stands_after at q = stands_by (verdict at q) at q
 abbrev pub takes : List ℕ → Placed → Progress → Progress
 takes e p (code.Asked id since waiting) = code.Asked id since (with_arrival (arrival e p) waiting)
 takes e p (code.Ready id was recovery waiting) = code.Ready id was recovery (with_arrival (arrival e p) waiting)
-takes e p (code.On at mark) = code.On (stands_after at (at_offset e p)) mark
+takes e p (code.On at behind_at) = code.On (stands_after at (at_offset e p)) behind_at
 
 -- what came is given up
 abbrev pub loses : Progress → Progress
 loses (code.Asked id since waiting) = code.Asked id since (given_up true)
 loses (code.Ready id was recovery waiting) = code.Ready id was recovery (given_up true)
-loses (code.On at mark) = code.On at mark
+loses (code.On at behind_at) = code.On at behind_at
 
 -- a verdict as the code answers it
 abbrev pub verdict_code : Verdict → Answer
@@ -91,7 +91,7 @@ verdict_code Insufficient = answer.Insufficient
 abbrev pub coming : Position → Progress → Meets
 coming q (code.Asked id since waiting) = meets.Buffer
 coming q (code.Ready id was recovery waiting) = meets.Buffer
-coming q (code.On at mark) = meets.On (verdict_code (verdict at q))
+coming q (code.On at behind_at) = meets.On (verdict_code (verdict at q))
 
 abbrev pub meeting : Position → Option Progress → Meets
 meeting q None = meets.Nothing

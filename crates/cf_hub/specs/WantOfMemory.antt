@@ -12,7 +12,7 @@ abbrev pub without_buffer : {B N : Type 0} → Wording B N → Subscription B �
 without_buffer w Off = Off
 without_buffer w (Asked id since b) = Asked id since (w.given_up b)
 without_buffer w (Ready id was r b) = Ready id was r (w.given_up b)
-without_buffer w (On p mark) = On p mark
+without_buffer w (On p behind_at) = On p behind_at
 
 -- the subscription waits for its reply, and what came for it is given up
 pub record GivesUp {B N : Type 0} (w : Wording B N) (c : List ℕ) (a b : SessionState B N) : Type 0 where

@@ -18,9 +18,13 @@ pub enum Checked {
     Ended,
 }
 
-/// What a check against the stream's position answers for a subscription that stands at `at`, with this mark.
-pub(crate) fn position_check(top: Option<Position>, at: &Position, mark: Option<u64>) -> Checked
-    ensures { result ≡ answer_of (position_check top at.now mark) }
+/// What a check against the stream's position answers for a subscription that stands at `at`.
+pub(crate) fn position_check(
+    top: Option<Position>,
+    at: &Position,
+    behind_at: Option<u64>,
+) -> Checked
+    ensures { result ≡ answer_of (position_check top at.now behind_at) }
 {
     let Some(top) = top else {
         return Checked::Ended;
@@ -31,7 +35,7 @@ pub(crate) fn position_check(top: Option<Position>, at: &Position, mark: Option<
     if top.offset <= at.offset {
         return Checked::Fine;
     }
-    if mark == Some(at.offset) {
+    if behind_at == Some(at.offset) {
         Checked::Ended
     } else {
         Checked::Behind

@@ -42,14 +42,14 @@ impl Hub {
         counts
     }
 
-    // The push of a publication, written once for all. If memory is refused for it that is noted, and each session gets one of
+    // The push of a publication, written once for all. If memory is refused for it that is counted, and each session gets one of
     // its own.
     fn push_for_all(&mut self, channel: &str, publication: &Publication) -> Option<ByteStr>
         ensures written { IsWritten result channel.now publication.now }
-        ensures noted { self.new ≡ met_refusal (not (is_some result)) self.old }
+        ensures counts { self.new ≡ met_refusal (not (is_some result)) self.old }
     {
         let written = push_text(self.alloc, channel, publication);
-        self.note(written.is_none());
+        self.count_refused(written.is_none());
         written
     }
 

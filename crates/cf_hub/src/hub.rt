@@ -118,7 +118,7 @@ impl Hub {
     }
 
     // Memory was refused, if so.
-    pub(crate) fn note(&mut self, refused: bool)
+    pub(crate) fn count_refused(&mut self, refused: bool)
         ensures { self.new ≡ met_refusal refused self.old }
     {
         self.refused = count_more(self.refused, refused);

@@ -18,13 +18,13 @@ impl Model for Pending {
     ghost use Rattle.std.specs.Prelude.{length};
     ghost use Rattle.std.specs.VecDeque.{deque_capacity};
     ghost use Rattle.cf_hub.specs.Turns.{Turns};
-    ghost use Rattle.cf_hub.specs.Marks.{AreMarked};
+    ghost use Rattle.cf_hub.specs.Flags.{AreFlagged};
 
     ghost Value = { Turns };
 
     ghost view = { λ l. record { numbers = l.numbers.items; known = length l.is_pending.items } };
 
-    ghost invariant = { λ l. AreMarked l.numbers.items l.is_pending.items
+    ghost invariant = { λ l. AreFlagged l.numbers.items l.is_pending.items
         (deque_capacity l.numbers) };
 }
 

@@ -32,7 +32,10 @@ fn nowhere() -> Progress {
         epoch: Epoch::none(),
         offset: 0,
     };
-    Progress::On { at, mark: None }
+    Progress::On {
+        at,
+        behind_at: None,
+    }
 }
 
 /// The offset of the last of these, which follow an offset without a gap, or else that offset.
@@ -97,7 +100,13 @@ impl Progress {
                     recovery,
                     released,
                 };
-                (Progress::On { at, mark: None }, Some(answered))
+                (
+                    Progress::On {
+                        at,
+                        behind_at: None,
+                    },
+                    Some(answered),
+                )
             }
             other => (other, None),
         };

@@ -42,7 +42,7 @@ impl Hub {
         match self.open(number, user, now) {
             Ok(()) => Ok(number),
             Err(_) => {
-                self.note(true);
+                self.count_refused(true);
                 Err(HubRefusal::Memory)
             }
         }

@@ -29,10 +29,10 @@ pub(crate) enum Progress {
         recovery: Recovery,
         waiting: Waiting,
     },
-    /// The client has, or has waiting, all up to this position. The mark is the position check's.
+    /// The client has, or has waiting, all up to this position. Where a check found it behind, that was there.
     On {
         at: Position,
-        mark: Option<u64>,
+        behind_at: Option<u64>,
     },
 }
 

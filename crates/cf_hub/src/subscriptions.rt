@@ -32,7 +32,7 @@ impl Hub {
     ghost use Rattle.cf_model.specs.Sessions.{checks, is_asked, is_off, is_ready, is_unfinished, leaves, reads};
     ghost use Rattle.cf_model.specs.Streams.{most_rows};
     ghost use Rattle.cf_hub.specs.Asking.{asked_of};
-    ghost use Rattle.cf_hub.specs.Checked.{check_answer, place_of, stand_of};
+    ghost use Rattle.cf_hub.specs.Checked.{check_answer, position_in, stand_of};
     ghost use Rattle.cf_hub.specs.Finish.{FinishesAt};
     ghost use Rattle.cf_hub.specs.Hub.{Begins, IsFull, IsOpenWith, IsRefused, IsSame, Meets, One, SameNode, SameRest, attached_at, is_open, sub_at};
     ghost use Rattle.cf_hub.specs.Subscriptions.{reading_of, sub_of};
@@ -63,7 +63,7 @@ impl Hub {
         match self.start(session, channel, id, since) {
             Ok(()) => Ok(()),
             Err(_) => {
-                self.note(true);
+                self.count_refused(true);
                 Err(HubRefusal::Memory)
             }
         }
@@ -209,7 +209,7 @@ impl Hub {
 
     /// Where a session's finished subscription to a channel stands. It takes no memory.
     pub fn position_of(&self, session: u32, channel: &str) -> Option<Position>
-        ensures { result ≡ place_of (sub_at self.now session channel.now) }
+        ensures { result ≡ position_in (sub_at self.now session channel.now) }
     {
         match self.progress(session, channel) {
             Some(Progress::On { at, .. }) => Some(*at),

@@ -1,6 +1,6 @@
 //! A session's position checks, and its pings.
 ghost use Rattle.std.specs.Prelude.{◌≡◌, Some, option_map};
-ghost use Rattle.cf_hub.specs.Checked.{check_answer, marked};
+ghost use Rattle.cf_hub.specs.Checked.{check_answer, after_check};
 ghost use Rattle.cf_hub.specs.Subscriptions.{SetsAt, progress_at, sub_of};
 
 use crate::checked::{Checked, position_check};
@@ -20,16 +20,16 @@ const PING_SECONDS: u64 = 25;
 const PONG_SECONDS: u64 = 8;
 
 impl Progress {
-    /// Checks it against where its stream stands, and marks where it stands itself if it is behind.
+    /// Checks it against where its stream stands, and keeps where it stands itself if it is behind.
     fn check(&mut self, top: Option<Position>) -> Checked
         ensures answer { result ≡ check_answer top (sub_of (Some self.old)) }
-        ensures after { self.new ≡ marked result self.old }
+        ensures after { self.new ≡ after_check result self.old }
     {
-        let Progress::On { at, mark } = self else {
+        let Progress::On { at, behind_at } = self else {
             return Checked::Nothing;
         };
-        let checked = position_check(top, at, *mark);
-        *mark = match checked {
+        let checked = position_check(top, at, *behind_at);
+        *behind_at = match checked {
             Checked::Behind => Some(at.offset),
             _ => None,
         };
@@ -47,7 +47,7 @@ fn check_at(
     ensures answer { result
         ≡ check_answer top (sub_of (progress_at subscriptions.old channel.now)) }
     ensures after { SetsAt subscriptions.old subscriptions.new channel.now
-        (option_map (marked result) (progress_at subscriptions.old channel.now)) }
+        (option_map (after_check result) (progress_at subscriptions.old channel.now)) }
 {
     match subscriptions.get_mut(channel) {
         None => Checked::Nothing,

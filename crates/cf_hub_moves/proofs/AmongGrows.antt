@@ -49,19 +49,19 @@ module _ (A : List ℕ → Type 0) (lists more : Lists) (g : Grown lists more) w
   sub-grows c Off Off e = tt
   sub-grows c (Asked id since k) (Asked id' since' k') e = (e.0, e.1, held-grows c id None k k' e.2)
   sub-grows c (Ready id was x k) (Ready id' was' x' k') e = (e.0, e.1, e.2, held-grows c id (Some x) k k' e.3)
-  sub-grows c (On p mark) (On p' mark') e = e
+  sub-grows c (On p behind_at) (On p' behind_at') e = e
   sub-grows c Off (Asked id since k) e = absurd e
   sub-grows c Off (Ready id was x k) e = absurd e
-  sub-grows c Off (On p mark) e = absurd e
+  sub-grows c Off (On p behind_at) e = absurd e
   sub-grows c (Asked id since k) Off e = absurd e
   sub-grows c (Asked id since k) (Ready id' was x k') e = absurd e
-  sub-grows c (Asked id since k) (On p mark) e = absurd e
+  sub-grows c (Asked id since k) (On p behind_at) e = absurd e
   sub-grows c (Ready id was x k) Off e = absurd e
   sub-grows c (Ready id was x k) (Asked id' since k') e = absurd e
-  sub-grows c (Ready id was x k) (On p mark) e = absurd e
-  sub-grows c (On p mark) Off e = absurd e
-  sub-grows c (On p mark) (Asked id since k) e = absurd e
-  sub-grows c (On p mark) (Ready id was x k) e = absurd e
+  sub-grows c (Ready id was x k) (On p behind_at) e = absurd e
+  sub-grows c (On p behind_at) Off e = absurd e
+  sub-grows c (On p behind_at) (Asked id since k) e = absurd e
+  sub-grows c (On p behind_at) (Ready id was x k) e = absurd e
 
   pub among-grows : (a : Texts) (b : Notes) → SaysAmong A lists a b → SaysAmong A more a b
   among-grows a b h =

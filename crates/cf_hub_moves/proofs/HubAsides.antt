@@ -123,17 +123,18 @@ module _
   kept_or new c t x b (inr k) = inr (slow_put new c t b k)
 
   verdict_by : (c e : List ℕ) (p : Placed) → IsListed lists c e p
-      → (x : Verdict) (mark : Option ℕ) (a : Texts) (b : Notes) → Says a b
-      → Says (by_verdict (delivering p) c (at_offset e p) mark x a)
-      (by_verdict (spoken lists) c (at_offset e p) mark x b)
-      ⊎ IsSlow A lists (by_verdict (delivering p) c (at_offset e p) mark x a) b
-  verdict_by c e p l Drop mark a b h = inl h
-  verdict_by c e p l Pass mark a b h =
+      → (x : Verdict) (behind_at : Option ℕ) (a : Texts) (b : Notes) → Says a b
+      → Says (by_verdict (delivering p) c (at_offset e p) behind_at x a)
+      (by_verdict (spoken lists) c (at_offset e p) behind_at x b)
+      ⊎ IsSlow A lists (by_verdict (delivering p) c (at_offset e p) behind_at x a) b
+  verdict_by c e p l Drop behind_at a b h = inl h
+  verdict_by c e p l Pass behind_at a b h =
       let q : Position = at_offset e p in
-      kept_or _ c (On q mark) _ b
-      (push_among A lists p [] [] (Text (push_text c p)) (Pub c q) (put_sub c (On q mark) a) (put_sub c (On q mark) b)
-      (says_place lists c e p l) (put_among A lists c (On q mark) (On q mark) a b (refl, refl) h))
-  verdict_by c e p l Insufficient mark a b h =
+      kept_or _ c (On q behind_at) _ b
+      (push_among A lists p [] [] (Text (push_text c p)) (Pub c q) (put_sub c (On q behind_at) a)
+      (put_sub c (On q behind_at) b)
+      (says_place lists c e p l) (put_among A lists c (On q behind_at) (On q behind_at) a b (refl, refl) h))
+  verdict_by c e p l Insufficient behind_at a b h =
       kept_or _ c Off _ b
       (push_among A lists p [] [] (Text (end_text c)) (End c) (put_sub c Off a) (put_sub c Off b) (says_end lists c)
       (put_among A lists c Off Off a b tt h))
@@ -451,7 +452,7 @@ module _
   finish_by c hit Off Off a new b e at f alike = nothing c a new b f alike (ap (λ z. finish_at (spoken lists) c z b) at)
   finish_by c hit (Asked id since k) (Asked i z k') a new b e at f alike =
       nothing c a new b f alike (ap (λ z. finish_at (spoken lists) c z b) at)
-  finish_by c hit (On p mark) (On q m) a new b e at f alike =
+  finish_by c hit (On p behind_at) (On q m) a new b e at f alike =
       nothing c a new b f alike (ap (λ z. finish_at (spoken lists) c z b) at)
   finish_by c hit (Ready id was r k) (Ready i w y k') a new b e at f alike =
       finish_ready c hit id was r k k' e.3 a new b alike (at ∙ (λ j. Ready (sym e.0 j) (sym e.1 j) (sym e.2 j) k')) f
@@ -464,9 +465,9 @@ module _
   finish_by c hit (Ready id was r k) Off a new b e at f alike = absurd e
   finish_by c hit (Ready id was r k) (Asked i z k') a new b e at f alike = absurd e
   finish_by c hit (Ready id was r k) (On q m) a new b e at f alike = absurd e
-  finish_by c hit (On p mark) Off a new b e at f alike = absurd e
-  finish_by c hit (On p mark) (Asked i z k') a new b e at f alike = absurd e
-  finish_by c hit (On p mark) (Ready i w y k') a new b e at f alike = absurd e
+  finish_by c hit (On p behind_at) Off a new b e at f alike = absurd e
+  finish_by c hit (On p behind_at) (Asked i z k') a new b e at f alike = absurd e
+  finish_by c hit (On p behind_at) (Ready i w y k') a new b e at f alike = absurd e
 
   -- EACH MOVE
   pub moves_among : MovesAmong A lists

@@ -9,7 +9,7 @@ use Rattle.cf_machine.specs.World.{World, start}
 use Rattle.cf_machine.specs.LooseRun.{Happening, Scheduled, Receive, loosely_allows, befalls, loose_run}
 use Rattle.cf_machine.specs.Trace.{Item, Entry}
 use Rattle.cf_machine.specs.Told.{entries, tells, loosely_tells, loosely_writes, loose_trace}
-use Rattle.cf_machine.specs.Marks.{Mark, entry_marks, allowed_marks, numbered, befell_from}
+use Rattle.cf_machine.specs.ClientSteps.{ClientStep, entry_steps, allowed_steps, numbered, befell_from}
 use Rattle.cf_machine.specs.StreamSafety.{AreNumbered, befell, Safe}
 use Rattle.cf_machine.proofs.Automaton.{IsSafe, nothing_seen}
 use Rattle.cf_machine.proofs.Sentences.{one_datum_of, unbroken_of, recovered_of, honest_of}
@@ -105,7 +105,8 @@ befell_from-tale cfg x c (h ∷ hs) n w before b =
     ≡ tale cfg x c (suc n) (befalls cfg w h) hs =
     befell_from-tale cfg x c hs (suc n) (befalls cfg w h) (before ++ loosely_writes cfg n w h)
     (below-append n before (loosely_writes cfg n w h) b (at-writes cfg n w h)) in
-    rw here (ap (λ (rest : List (List Mark)). (allowed_marks cfg x c w h ++ entry_marks x c (loosely_writes cfg n w h))
+    rw here (ap (λ (rest : List (List ClientStep)).
+    (allowed_steps cfg x c w h ++ entry_steps x c (loosely_writes cfg n w h))
     ∷ rest)
     (subst (λ (t : List Entry). befell_from cfg x c t (suc n) (befalls cfg w h) hs
     ≡ tale cfg x c (suc n) (befalls cfg w h) hs)
@@ -114,7 +115,7 @@ befell_from-tale cfg x c (h ∷ hs) n w before b =
 safe-befell_from : (cfg : Config) (hs : List Happening) (x c : List ℕ)
     → IsSafe nothing_seen (befell cfg hs (loose_trace cfg 1 start hs) x c)
 safe-befell_from cfg hs x c =
-    subst (λ (m : List (List Mark)). IsSafe nothing_seen m) (sym (befell_from-tale cfg x c hs 1 start [] tt))
+    subst (λ (m : List (List ClientStep)). IsSafe nothing_seen m) (sym (befell_from-tale cfg x c hs 1 start [] tt))
     (safe_tale cfg hs x c)
 
 -- numbers never fall

@@ -6,7 +6,7 @@ use Rattle.cf_json.specs.Quoting.{escape, short_letter}
 use Rattle.cf_protocol.specs.Written.{command_text, outgoing_text}
 use Rattle.cf_machine.specs.Event.{SetSize}
 use Rattle.cf_machine.specs.LooseRun.{lines}
-use Rattle.cf_machine.specs.Marks.{Mark, Asks, Reads, Subscribed, Published, Stops}
+use Rattle.cf_machine.specs.ClientSteps.{ClientStep, Asks, Reads, Subscribed, Published, Stops}
 use Rattle.cf_machine.specs.StreamSafety.{Safe}
 use Rattle.cf_model.specs.Sessions.{note_length}
 use Rattle.cf_machine.specs.Weights.{command_length}
@@ -34,13 +34,13 @@ second_data h =
 
 -- what befell ann before it is told that it is subscribed again, the latest first: a read that found seven, and so many
 -- held
-abbrev past : ℕ → List Mark
+abbrev past : ℕ → List ClientStep
 past held =
     Reads (record { epoch = codes "aaaa"; top = 7; held = held }) ∷ Asks true ∷ Stops ∷ Published (place 2)
     ∷ Published (place 1)
     ∷ Subscribed false (place 0) ∷ Reads (record { epoch = codes "aaaa"; top = 0; held = 0 }) ∷ Asks false ∷ []
 
-abbrev missed : List Mark
+abbrev missed : List ClientStep
 missed = Published (place 3) ∷ Published (place 4) ∷ Published (place 5) ∷ Published (place 6) ∷ Published (place 7)
     ∷ []
 

@@ -8,7 +8,7 @@ use Rattle.cf_protocol.specs.Written.{command_text, outgoing_text}
 use Rattle.cf_machine.specs.Config.{Config}
 use Rattle.cf_machine.specs.LooseRun.{Happening, lines}
 use Rattle.cf_machine.specs.Trace.{Published as ToldPublished, Subscribed as ToldSubscribed}
-use Rattle.cf_machine.specs.Marks.{Mark, Asks, Reads, Subscribed, Published, Stops}
+use Rattle.cf_machine.specs.ClientSteps.{ClientStep, Asks, Reads, Subscribed, Published, Stops}
 use Rattle.cf_machine.specs.StreamSafety.{Safe, befell}
 use Rattle.cf_model.specs.Sessions.{note_length}
 use Rattle.cf_machine.specs.Weights.{command_length}
@@ -17,11 +17,11 @@ use Rattle.cf_machine.specs.Examples.{place, plain, recovered, tells_again, tell
 use Rattle.cf_machine.specs.Examples.{tells_sub, told_by, two_come}
 
 -- a read that found so many publications, and so many held
-abbrev found : ℕ → ℕ → Mark
+abbrev found : ℕ → ℕ → ClientStep
 found top held = Reads (record { epoch = codes "aaaa"; top = top; held = held })
 
 -- how ann's subscription to news begins, the latest first
-abbrev begun : List Mark
+abbrev begun : List ClientStep
 begun = Subscribed false (place 0) ∷ found 0 0 ∷ Asks false ∷ []
 
 -- ---- numbers of entries
@@ -84,14 +84,14 @@ pub short_run : Safe (keeping 3) (lines recovered)
     ∷ tells_pub 21 4 "4" ∷ []) → ⊥
 unfolding note_length command_length command_text outgoing_text digits escape short_letter
 short_run h =
-    let all : List (List Mark) = befell (keeping 3) (lines recovered)
+    let all : List (List ClientStep) = befell (keeping 3) (lines recovered)
     (tells_sub 6 0 ∷ tells_pub 11 1 "1" ∷ tells_pub 12 2 "2" ∷ tells_recovered 21 5 ∷ tells_pub 21 3 "3"
     ∷ tells_pub 21 4 "4" ∷ []) ann news in
     let run = h.recovered_run ann news (take 20 all) []
     (Subscribed true (place 5) ∷ Published (place 3) ∷ Published (place 4) ∷ [])
     (found 5 3 ∷ Asks true ∷ Stops ∷ Published (place 2) ∷ Published (place 1) ∷ begun)
     (Published (place 3) ∷ Published (place 4) ∷ []) (place 5) refl refl (omega arith) in
-    let e : ◌≡◌ {A = ℕ} 2 3 = ap (λ (ms : List Mark). length ms) run in absurd (omega arith)
+    let e : ◌≡◌ {A = ℕ} 2 3 = ap (λ (ms : List ClientStep). length ms) run in absurd (omega arith)
 
 -- ---- honest recovery
 

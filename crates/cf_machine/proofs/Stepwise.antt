@@ -21,7 +21,7 @@ abbrev pub pass_at : Lists → List ℕ → Sub → Session → Session
 pass_at lists c Off s = s
 pass_at lists c (Asked id since arrived) s = s
 pass_at lists c (Ready id was r arrived) s = s
-pass_at lists c (On p mark) s = push (wording lists) (Pub c (next p)) (put_sub c (On (next p) mark) s)
+pass_at lists c (On p behind_at) s = push (wording lists) (Pub c (next p)) (put_sub c (On (next p) behind_at) s)
 
 abbrev pub passes : Lists → List ℕ → ℕ → Session → Session
 passes lists c zero s = s
@@ -32,7 +32,7 @@ abbrev pub end_at : Lists → List ℕ → Sub → Session → Session
 end_at lists c Off s = s
 end_at lists c (Asked id since arrived) s = s
 end_at lists c (Ready id was r arrived) s = s
-end_at lists c (On p mark) s = push (wording lists) (End c) (put_sub c Off s)
+end_at lists c (On p behind_at) s = push (wording lists) (End c) (put_sub c Off s)
 
 abbrev pub ends : Lists → List ℕ → Session → Session
 ends lists c s = end_at lists c (s.subs c) s

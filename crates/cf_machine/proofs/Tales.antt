@@ -18,45 +18,46 @@ use Rattle.cf_machine.specs.Trace.{Item, Refused, Listed}
 use Rattle.cf_machine.specs.Told.{run_items, reading_items, reply_items, pub_items, end_items, asks_under, error_items}
 use Rattle.cf_machine.specs.Told.{listing_items, items, first_items, entries, told_first as tells_first, tells}
 use Rattle.cf_machine.specs.Told.{loosely_tells, loosely_writes}
-use Rattle.cf_machine.specs.Marks.{Mark, Subscribed, Published, Stops, only, item_marks, entry_marks, event_marks}
-use Rattle.cf_machine.specs.Marks.{own_marks, allowed_marks}
+use Rattle.cf_machine.specs.ClientSteps.{ClientStep, Subscribed, Published, Stops, only, item_steps, entry_steps}
+use Rattle.cf_machine.specs.ClientSteps.{event_steps}
+use Rattle.cf_machine.specs.ClientSteps.{own_steps, allowed_steps}
 use Rattle.cf_machine.specs.StreamSafety.{places}
 use Rattle.cf_machine.proofs.Automaton.{IsSafe, nothing_seen}
 use Rattle.cf_machine.proofs.Names.{text_tells, itself, not_this, by_test}
 use Rattle.cf_machine.proofs.Telling.{told_by_reading, told, told_first}
-use Rattle.cf_machine.proofs.Stepping.{step_marks, loose_marks, marks}
+use Rattle.cf_machine.proofs.Stepping.{scheduled_steps, loose_steps, client_steps}
 use Rattle.cf_machine.proofs.Steps.{history, safe_history}
 
-abbrev items_marks : List ℕ → List Item → List Mark
-items_marks c [] = []
-items_marks c (i ∷ is) = item_marks c i ++ items_marks c is
+abbrev items_steps : List ℕ → List Item → List ClientStep
+items_steps c [] = []
+items_steps c (i ∷ is) = item_steps c i ++ items_steps c is
 
 -- items of another channel
 module _ (lists : Lists) (c d : List ℕ) (ne : d ≢ c) where
-  away-run : (n : ℕ) (p : Position) → items_marks c (run_items lists d p n) ≡ []
+  away-run : (n : ℕ) (p : Position) → items_steps c (run_items lists d p n) ≡ []
   away-run zero p = refl
   away-run (suc n) p = rw (not_this d c ne) (away-run n (next p))
 
-  away-reading : (was : Bool) (r : Reading) → items_marks c (reading_items lists d was r) ≡ []
+  away-reading : (was : Bool) (r : Reading) → items_steps c (reading_items lists d was r) ≡ []
   away-reading was r =
       rw (not_this d c ne)
-      (by_test (λ is. items_marks c is ≡ []) r.recovered
+      (by_test (λ is. items_steps c is ≡ []) r.recovered
       (run_items lists d (record { epoch = r.epoch; offset = r.low }) (r.top - r.low)) []
       (λ h. away-run (r.top - r.low) _) (λ h. refl))
 
-  away-reply : (k : ℕ) (was : Bool) (r : Reading) (m : Mode) → items_marks c (reply_items lists d k was r m) ≡ []
+  away-reply : (k : ℕ) (was : Bool) (r : Reading) (m : Mode) → items_steps c (reply_items lists d k was r m) ≡ []
   away-reply k was r (Idle last) = refl
   away-reply k was r (Live p) = refl
   away-reply k was r (Asking id from last) =
-      by_test (λ is. items_marks c is ≡ []) (k == id) (reading_items lists d was r) [] (λ h. away-reading was r)
+      by_test (λ is. items_steps c is ≡ []) (k == id) (reading_items lists d was r) [] (λ h. away-reading was r)
       (λ h. refl)
 
-  away-pub : (q : Position) (m : Mode) → items_marks c (pub_items lists d q m) ≡ []
+  away-pub : (q : Position) (m : Mode) → items_steps c (pub_items lists d q m) ≡ []
   away-pub q (Idle last) = refl
   away-pub q (Asking id from last) = refl
   away-pub q (Live p) = rw (not_this d c ne) refl
 
-  away-end : (m : Mode) → items_marks c (end_items d m) ≡ []
+  away-end : (m : Mode) → items_steps c (end_items d m) ≡ []
   away-end (Idle last) = refl
   away-end (Asking id from last) = refl
   away-end (Live p) = rw (not_this d c ne) refl
@@ -78,50 +79,50 @@ module _ (lists : Lists) (c d : List ℕ) (ne : d ≢ c) where
 
 -- items of the channel itself
 module _ (lists : Lists) (c : List ℕ) where
-  here-run : (n : ℕ) (p : Position) → items_marks c (run_items lists c p n) ≡ places p n
+  here-run : (n : ℕ) (p : Position) → items_steps c (run_items lists c p n) ≡ places p n
   here-run zero p = refl
   here-run (suc n) p = rw (itself c) (ap (λ ms. Published (next p) ∷ ms) (here-run n (next p)))
 
-  here-reading : (was : Bool) (r : Reading) → items_marks c (reading_items lists c was r) ≡ told_by_reading r
+  here-reading : (was : Bool) (r : Reading) → items_steps c (reading_items lists c was r) ≡ told_by_reading r
   here-reading was r = rw (itself c) (ap (λ ms. Subscribed r.recovered (read_to r) ∷ ms) (of_test r.recovered))
     where
-      of_test : (v : Bool) → items_marks c (if v then run_items lists c (record { epoch = r.epoch; offset = r.low })
+      of_test : (v : Bool) → items_steps c (if v then run_items lists c (record { epoch = r.epoch; offset = r.low })
           (r.top - r.low) else [])
           ≡ (if v then places (record { epoch = r.epoch; offset = r.low }) (r.top - r.low) else [])
       of_test true = here-run (r.top - r.low) _
       of_test false = refl
 
   here-reply : (k : ℕ) (was : Bool) (r : Reading) (m : Mode)
-      → items_marks c (reply_items lists c k was r m) ≡ told c m (Reply c k was r)
+      → items_steps c (reply_items lists c k was r m) ≡ told c m (Reply c k was r)
   here-reply k was r (Idle last) = refl
   here-reply k was r (Live p) = refl
   here-reply k was r (Asking id from last) = rw (itself c) (of_test (k == id))
     where
-      of_test : (v : Bool) → items_marks c (if v then reading_items lists c was r else [])
+      of_test : (v : Bool) → items_steps c (if v then reading_items lists c was r else [])
           ≡ (if true && v then told_by_reading r else [])
       of_test true = here-reading was r
       of_test false = refl
 
-  here-pub : (q : Position) (m : Mode) → items_marks c (pub_items lists c q m) ≡ told c m (Pub c q)
+  here-pub : (q : Position) (m : Mode) → items_steps c (pub_items lists c q m) ≡ told c m (Pub c q)
   here-pub q (Idle last) = refl
   here-pub q (Asking id from last) = refl
   here-pub q (Live p) = rw (itself c) refl
 
-  here-end : (m : Mode) → items_marks c (end_items c m) ≡ told c m (End c)
+  here-end : (m : Mode) → items_steps c (end_items c m) ≡ told c m (End c)
   here-end (Idle last) = refl
   here-end (Asking id from last) = refl
   here-end (Live p) = rw (itself c) refl
 
-error-marks : (c d : List ℕ) (k code : ℕ) (m : Mode) (calls : List ℕ)
-    → items_marks c (error_items d k code m calls) ≡ []
-error-marks c d k code m calls =
-    by_test (λ is. items_marks c is ≡ []) (asks_under k m || is_out k calls) (Refused d code ∷ []) [] (λ h. refl)
+error-steps : (c d : List ℕ) (k code : ℕ) (m : Mode) (calls : List ℕ)
+    → items_steps c (error_items d k code m calls) ≡ []
+error-steps c d k code m calls =
+    by_test (λ is. items_steps c is ≡ []) (asks_under k m || is_out k calls) (Refused d code ∷ []) [] (λ h. refl)
     (λ h. refl)
 
-listing-marks : (c d : List ℕ) (k : ℕ) (at : Position) (count : ℕ) (calls : List ℕ)
-    → items_marks c (listing_items d k at count calls) ≡ []
-listing-marks c d k at count calls =
-    by_test (λ is. items_marks c is ≡ []) (is_out k calls) (Listed d at count ∷ []) [] (λ h. refl) (λ h. refl)
+listing-steps : (c d : List ℕ) (k : ℕ) (at : Position) (count : ℕ) (calls : List ℕ)
+    → items_steps c (listing_items d k at count calls) ≡ []
+listing-steps c d k at count calls =
+    by_test (λ is. items_steps c is ≡ []) (is_out k calls) (Listed d at count ∷ []) [] (λ h. refl) (λ h. refl)
 
 -- notes that tell a channel nothing
 told-error : (c d : List ℕ) (k code : ℕ) (m : Mode) → [] ≡ told c m (Fails d k code)
@@ -155,97 +156,98 @@ told-close c code (Idle last) = refl
 told-close c code (Asking id from last) = refl
 told-close c code (Live p) = refl
 
-note-marks : (lists : Lists) (c : List ℕ) (x : Client) (n : Note)
-    → items_marks c (items lists x n) ≡ told c (x.modes c) n
-note-marks lists c x (Reply d k was r) =
+note-steps : (lists : Lists) (c : List ℕ) (x : Client) (n : Note)
+    → items_steps c (items lists x n) ≡ told c (x.modes c) n
+note-steps lists c x (Reply d k was r) =
     elim (text_tells d c) [
-      | inl e ↦ subst (λ y. items_marks c (reply_items lists y k was r (x.modes y))
+      | inl e ↦ subst (λ y. items_steps c (reply_items lists y k was r (x.modes y))
           ≡ told c (x.modes c) (Reply y k was r)) (sym e.1) (here-reply lists c k was r (x.modes c))
       | inr e ↦ away-reply lists c d e.1 k was r (x.modes d) ∙ sym (told-reply lists c d e.1 k was r (x.modes c))
     ]
-note-marks lists c x (Pub d q) =
+note-steps lists c x (Pub d q) =
     elim (text_tells d c) [
-      | inl e ↦ subst (λ y. items_marks c (pub_items lists y q (x.modes y)) ≡ told c (x.modes c) (Pub y q)) (sym e.1)
+      | inl e ↦ subst (λ y. items_steps c (pub_items lists y q (x.modes y)) ≡ told c (x.modes c) (Pub y q)) (sym e.1)
           (here-pub lists c q (x.modes c))
       | inr e ↦ away-pub lists c d e.1 q (x.modes d) ∙ sym (told-pub lists c d e.1 q (x.modes c))
     ]
-note-marks lists c x (End d) =
+note-steps lists c x (End d) =
     elim (text_tells d c) [
-      | inl e ↦ subst (λ y. items_marks c (end_items y (x.modes y)) ≡ told c (x.modes c) (End y)) (sym e.1)
+      | inl e ↦ subst (λ y. items_steps c (end_items y (x.modes y)) ≡ told c (x.modes c) (End y)) (sym e.1)
           (here-end lists c (x.modes c))
       | inr e ↦ away-end lists c d e.1 (x.modes d) ∙ sym (told-end lists c d e.1 (x.modes c))
     ]
-note-marks lists c x (Fails d k code) = error-marks c d k code (x.modes d) x.calls ∙ told-error c d k code (x.modes c)
-note-marks lists c x (PutDone k) = told-put c k (x.modes c)
-note-marks lists c x (Left k) = told-left c k (x.modes c)
-note-marks lists c x (Listing d k at low count) =
-    listing-marks c d k at count x.calls ∙ told-listing c d k at low count (x.modes c)
-note-marks lists c x PingDue = told-ping c (x.modes c)
-note-marks lists c x (Close code) = told-close c code (x.modes c)
+note-steps lists c x (Fails d k code) =
+    error-steps c d k code (x.modes d) x.calls ∙ told-error c d k code (x.modes c)
+note-steps lists c x (PutDone k) = told-put c k (x.modes c)
+note-steps lists c x (Left k) = told-left c k (x.modes c)
+note-steps lists c x (Listing d k at low count) =
+    listing-steps c d k at count x.calls ∙ told-listing c d k at low count (x.modes c)
+note-steps lists c x PingDue = told-ping c (x.modes c)
+note-steps lists c x (Close code) = told-close c code (x.modes c)
 
-first-marks : (lists : Lists) (c : List ℕ) (x : Client) (ns : List Note)
-    → items_marks c (first_items lists x ns) ≡ told_first c (x.modes c) ns
-first-marks lists c x [] = refl
-first-marks lists c x (n ∷ ns) = note-marks lists c x n
+first-steps : (lists : Lists) (c : List ℕ) (x : Client) (ns : List Note)
+    → items_steps c (first_items lists x ns) ≡ told_first c (x.modes c) ns
+first-steps lists c x [] = refl
+first-steps lists c x (n ∷ ns) = note-steps lists c x n
 
 -- entries of one client
-entries-marks : (x c : List ℕ) (n : ℕ) (y : List ℕ) (is : List Item)
-    → entry_marks x c (entries n y is) ≡ only x y (items_marks c is)
-entries-marks x c n y [] = by_test (λ ms. [] ≡ ms) (bytes_eq x y) [] [] (λ h. refl) (λ h. refl)
-entries-marks x c n y (i ∷ is) =
+entries-steps : (x c : List ℕ) (n : ℕ) (y : List ℕ) (is : List Item)
+    → entry_steps x c (entries n y is) ≡ only x y (items_steps c is)
+entries-steps x c n y [] = by_test (λ ms. [] ≡ ms) (bytes_eq x y) [] [] (λ h. refl) (λ h. refl)
+entries-steps x c n y (i ∷ is) =
     elim (text_tells x y) [
-      | inl e ↦ rw e.0 (ap (λ ms. item_marks c i ++ ms) (entries-marks x c n y is ∙ rw e.0 refl))
-      | inr e ↦ rw e.0 (entries-marks x c n y is ∙ rw e.0 refl)
+      | inl e ↦ rw e.0 (ap (λ ms. item_steps c i ++ ms) (entries-steps x c n y is ∙ rw e.0 refl))
+      | inr e ↦ rw e.0 (entries-steps x c n y is ∙ rw e.0 refl)
     ]
 
 told-here : (x c : List ℕ) (n : ℕ) (y : List ℕ) (w : World) (ns : List Note)
-    → entry_marks x c (tells_first n y w ns) ≡ only x y (told_first c ((w.links y).client.modes c) ns)
+    → entry_steps x c (tells_first n y w ns) ≡ only x y (told_first c ((w.links y).client.modes c) ns)
 told-here x c n y w ns =
-    entries-marks x c n y (first_items w.broker.lists (w.links y).client ns)
-    ∙ ap (only x y) (first-marks w.broker.lists c (w.links y).client ns)
+    entries-steps x c n y (first_items w.broker.lists (w.links y).client ns)
+    ∙ ap (only x y) (first-steps w.broker.lists c (w.links y).client ns)
 
 -- what an event does, and what is told in it
-event-marks : (x c : List ℕ) (n : ℕ) (w : World) (e : Event)
-    → (event_marks x c w e ++ entry_marks x c (tells n w e)) ≡ step_marks x c w e
-event-marks x c n w (Take y) = told-here x c n y w (holds (w.links y)).way
-event-marks x c n w (Ask y d) = append-nil _
-event-marks x c n w (AskFrom y d) = append-nil _
-event-marks x c n w (Read y d) = append-nil _
-event-marks x c n w (Break y) = append-nil _
-event-marks x c n w (Leave y d) = append-nil _
-event-marks x c n w (Restart m) = append-nil _
-event-marks x c n w e = refl
+event-steps : (x c : List ℕ) (n : ℕ) (w : World) (e : Event)
+    → (event_steps x c w e ++ entry_steps x c (tells n w e)) ≡ scheduled_steps x c w e
+event-steps x c n w (Take y) = told-here x c n y w (holds (w.links y)).way
+event-steps x c n w (Ask y d) = append-nil _
+event-steps x c n w (AskFrom y d) = append-nil _
+event-steps x c n w (Read y d) = append-nil _
+event-steps x c n w (Break y) = append-nil _
+event-steps x c n w (Leave y d) = append-nil _
+event-steps x c n w (Restart m) = append-nil _
+event-steps x c n w e = refl
 
-happening-marks : (x c : List ℕ) (n : ℕ) (w : World) (h : Happening)
-    → (own_marks x c w h ++ entry_marks x c (loosely_tells n w h)) ≡ loose_marks x c w h
-happening-marks x c n w (Scheduled e) = event-marks x c n w e
-happening-marks x c n w (Receive y) = told-here x c n y w (w.links y).way
-happening-marks x c n w (SendAsk y d) = append-nil _
-happening-marks x c n w (SendAskFrom y d) = append-nil _
-happening-marks x c n w (SendLeave y d) = append-nil _
-happening-marks x c n w h = refl
+happening-steps : (x c : List ℕ) (n : ℕ) (w : World) (h : Happening)
+    → (own_steps x c w h ++ entry_steps x c (loosely_tells n w h)) ≡ loose_steps x c w h
+happening-steps x c n w (Scheduled e) = event-steps x c n w e
+happening-steps x c n w (Receive y) = told-here x c n y w (w.links y).way
+happening-steps x c n w (SendAsk y d) = append-nil _
+happening-steps x c n w (SendAskFrom y d) = append-nil _
+happening-steps x c n w (SendLeave y d) = append-nil _
+happening-steps x c n w h = refl
 
-step-marks : (cfg : Config) (x c : List ℕ) (n : ℕ) (w : World) (h : Happening)
-    → (allowed_marks cfg x c w h ++ entry_marks x c (loosely_writes cfg n w h)) ≡ marks cfg x c w h
-step-marks cfg x c n w h = of_test (loosely_allows cfg w h)
+step-steps : (cfg : Config) (x c : List ℕ) (n : ℕ) (w : World) (h : Happening)
+    → (allowed_steps cfg x c w h ++ entry_steps x c (loosely_writes cfg n w h)) ≡ client_steps cfg x c w h
+step-steps cfg x c n w h = of_test (loosely_allows cfg w h)
   where
-    of_test : (t : Bool) → ((if t then own_marks x c w h else [])
-        ++ entry_marks x c (if t then loosely_tells n w h else [])) ≡ (if t then loose_marks x c w h else [])
-    of_test true = happening-marks x c n w h
+    of_test : (t : Bool) → ((if t then own_steps x c w h else [])
+        ++ entry_steps x c (if t then loosely_tells n w h else [])) ≡ (if t then loose_steps x c w h else [])
+    of_test true = happening-steps x c n w h
     of_test false = refl
 
 -- what befalls client x at channel c, event by event
-abbrev pub tale : Config → List ℕ → List ℕ → ℕ → World → List Happening → List (List Mark)
+abbrev pub tale : Config → List ℕ → List ℕ → ℕ → World → List Happening → List (List ClientStep)
 tale cfg x c n w [] = []
 tale cfg x c n w (h ∷ hs) =
-    (allowed_marks cfg x c w h ++ entry_marks x c (loosely_writes cfg n w h))
+    (allowed_steps cfg x c w h ++ entry_steps x c (loosely_writes cfg n w h))
     ∷ tale cfg x c (suc n) (befalls cfg w h) hs
 
 tale-history : (cfg : Config) (x c : List ℕ) (n : ℕ) (w : World) (hs : List Happening)
     → tale cfg x c n w hs ≡ history cfg x c w hs
 tale-history cfg x c n w [] = refl
 tale-history cfg x c n w (h ∷ hs) =
-    rw (step-marks cfg x c n w h) (ap (λ rest. marks cfg x c w h ∷ rest)
+    rw (step-steps cfg x c n w h) (ap (λ rest. client_steps cfg x c w h ∷ rest)
     (tale-history cfg x c (suc n) (befalls cfg w h) hs))
 
 pub safe_tale : (cfg : Config) (hs : List Happening) (x c : List ℕ) → IsSafe nothing_seen (tale cfg x c 1 start hs)

@@ -21,7 +21,7 @@ if_same false A B = B
 -- The publications of c that are coming follow p one by one, up to where the node's side stands, or to an end or a
 -- close.
 abbrev pub Lead : List ℕ → Position → List Note → Sub → Type 0
-Lead c p [] (On q mark) = p ≡ q
+Lead c p [] (On q behind_at) = p ≡ q
 Lead c p [] s = ⊥
 Lead c p (Pub d q ∷ ns) s = if_same (bytes_eq d c) ((q ≡ next p) × Lead c q ns s) (Lead c p ns s)
 Lead c p (End d ∷ ns) s = if_same (bytes_eq d c) (Unit {0}) (Lead c p ns s)

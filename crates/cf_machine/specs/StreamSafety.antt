@@ -1,7 +1,7 @@
 -- STREAM SAFETY: what a trace may say, beside the happenings that it is of.
 -- A reader has to believe the machine in five things, which are not in the trace: whether the condition of an event
 -- held, which node a client is on, whether its subscription was asked for there, the stream as its node read it (see
--- Marks), and what had been published at each place. All else is taken from the events themselves and the trace.
+-- ClientSteps), and what had been published at each place. All else is taken from the events themselves and the trace.
 use Rattle.std.specs.Prelude.{◌≡◌, ℕ, zero, suc, ◌-◌, ◌≤◌, ◌<◌, min, ◌↔◌, IsTrue, Bool, true, false, if◌then◌else◌}
 use Rattle.std.specs.Prelude.{Option, Some, None, List, [], ◌∷◌, ◌++◌, ◌⊎◌, length, take}
 use Rattle.cf_protocol.specs.Position.{Position}
@@ -14,7 +14,7 @@ use Rattle.cf_machine.specs.PublicationList.{body_at}
 use Rattle.cf_machine.specs.World.{start}
 use Rattle.cf_machine.specs.LooseRun.{Happening, loose_run}
 use Rattle.cf_machine.specs.Trace.{Item, Published as ToldPublished, Entry}
-use Rattle.cf_machine.specs.Marks.{Mark, Asks, Reads, Subscribed, Published, Stops, befell_from}
+use Rattle.cf_machine.specs.ClientSteps.{ClientStep, Asks, Reads, Subscribed, Published, Stops, befell_from}
 
 -- ---- numbered
 
@@ -54,7 +54,7 @@ OneDatum t =
 -- ---- what befell one client at one channel so far, the latest first
 
 -- the position of the last Subscribed or Published
-abbrev pub last_position : List Mark → Option Position
+abbrev pub last_position : List ClientStep → Option Position
 last_position [] = None
 last_position (Subscribed recovered at ∷ ms) = Some at
 last_position (Published at ∷ ms) = Some at
@@ -63,7 +63,7 @@ last_position (Reads found ∷ ms) = last_position ms
 last_position (Stops ∷ ms) = last_position ms
 
 -- the old position: the one from which the last ask asked, if from one
-abbrev pub old_position : List Mark → Option Position
+abbrev pub old_position : List ClientStep → Option Position
 old_position [] = None
 old_position (Asks from ∷ ms) = if from then last_position ms else None
 old_position (Reads found ∷ ms) = old_position ms
@@ -72,7 +72,7 @@ old_position (Published at ∷ ms) = old_position ms
 old_position (Stops ∷ ms) = old_position ms
 
 -- Whether an ask is out: until its application is told that it is subscribed, or the client stops.
-abbrev pub asks_now : List Mark → Bool
+abbrev pub asks_now : List ClientStep → Bool
 asks_now [] = false
 asks_now (Asks from ∷ ms) = true
 asks_now (Reads found ∷ ms) = asks_now ms
@@ -81,7 +81,7 @@ asks_now (Published at ∷ ms) = asks_now ms
 asks_now (Stops ∷ ms) = false
 
 -- The stream as the last read found it that was made for the ask that is out. Each read answers once.
-abbrev pub last_read : List Mark → Option StreamState
+abbrev pub last_read : List ClientStep → Option StreamState
 last_read [] = None
 last_read (Reads found ∷ ms) = if asks_now ms then Some found else None
 last_read (Asks from ∷ ms) = None
@@ -98,7 +98,7 @@ sets_out false old at = at
 -- The place after which the next Published has to come: that of the Published before it, or where the subscription
 -- set out. None before the first Subscribed, after the client asks, and after it was told of an end or a close, left,
 -- broke or was restarted.
-abbrev pub run_of : List Mark → Option Position
+abbrev pub run_of : List ClientStep → Option Position
 run_of [] = None
 run_of (Published at ∷ ms) = Some at
 run_of (Subscribed recovered at ∷ ms) = Some (sets_out recovered (old_position ms) at)
@@ -107,11 +107,11 @@ run_of (Stops ∷ ms) = None
 run_of (Reads found ∷ ms) = run_of ms
 
 -- a past, the latest first, and what follows it
-abbrev pub onto : List Mark → List Mark → List Mark
+abbrev pub onto : List ClientStep → List ClientStep → List ClientStep
 onto [] ms = ms
 onto (m ∷ past) ms = onto past (m ∷ ms)
 
-abbrev pub all_of : List (List Mark) → List Mark
+abbrev pub all_of : List (List ClientStep) → List ClientStep
 all_of [] = []
 all_of (ms ∷ more) = ms ++ all_of more
 
@@ -122,26 +122,26 @@ Follows None at = ⊥
 Follows (Some p) at = at ≡ next p
 
 -- UNBROKEN: wherever a Published stands, it comes right after the place before it.
-abbrev pub Unbroken : List (List Mark) → Type 0
+abbrev pub Unbroken : List (List ClientStep) → Type 0
 Unbroken history =
-    (past after : List Mark) (at : Position) → all_of history ≡ onto past (Published at ∷ after)
+    (past after : List ClientStep) (at : Position) → all_of history ≡ onto past (Published at ∷ after)
     → Follows (run_of past) at
 
 -- n places that follow one
-abbrev pub places : Position → ℕ → List Mark
+abbrev pub places : Position → ℕ → List ClientStep
 places p zero = []
 places p (suc n) = Published (next p) ∷ places (next p) n
 
 -- those after the old position, up to the reply's; none if the old position is not below that
-abbrev pub all_places : Option Position → Position → List Mark
+abbrev pub all_places : Option Position → Position → List ClientStep
 all_places None at = []
 all_places (Some p) at = places p (at.offset - p.offset)
 
 -- RECOVERED RUN: a recovered Subscribed is followed, in the same event, by exactly the places from the old position
 -- to its own.
-abbrev pub RecoveredRun : List (List Mark) → Type 0
+abbrev pub RecoveredRun : List (List ClientStep) → Type 0
 RecoveredRun history =
-    (before after : List (List Mark)) (ms past more : List Mark) (at : Position)
+    (before after : List (List ClientStep)) (ms past more : List ClientStep) (at : Position)
     → history ≡ before ++ ms ∷ after
     → all_of before ++ ms ≡ onto past (Subscribed true at ∷ more)
     → length more < length ms
@@ -162,16 +162,16 @@ IsHonest old (Some found) recovered at = (IsTrue recovered ↔ StillHeld old fou
 -- HONEST RECOVERY: a Subscribed stands behind a read made for the ask that it answers, and says recovered exactly
 -- if the stream then still held everything since the old position; and it gives the position at which that read
 -- found the stream.
-abbrev pub HonestRecovery : List (List Mark) → Type 0
+abbrev pub HonestRecovery : List (List ClientStep) → Type 0
 HonestRecovery history =
-    (past after : List Mark) (recovered : Bool) (at : Position)
+    (past after : List ClientStep) (recovered : Bool) (at : Position)
     → all_of history ≡ onto past (Subscribed recovered at ∷ after)
     → IsHonest (old_position past) (last_read past) recovered at
 
 -- ---- the whole
 
 -- what befalls client x at channel c in these happenings, by a trace
-abbrev pub befell : Config → List Happening → List Entry → List ℕ → List ℕ → List (List Mark)
+abbrev pub befell : Config → List Happening → List Entry → List ℕ → List ℕ → List (List ClientStep)
 befell cfg hs t x c = befell_from cfg x c t 1 start hs
 
 -- A trace is safe beside the happenings that it is of.

@@ -107,14 +107,14 @@ pub data Checked : Type 0 where
   -- it stands where it stood at the last check, or the stream is another one
   Ended : Checked
 
--- the stream is ahead: the mark is the offset at which the last check found the subscription behind
+-- the stream is ahead: `behind_at` is the offset at which the last check found the subscription behind
 abbrev pub behind : ℕ → Option ℕ → Checked
 behind offset None = Behind
-behind offset (Some mark) = if mark == offset then Ended else Behind
+behind offset (Some behind_at) = if behind_at == offset then Ended else Behind
 
 abbrev pub position_check : Option Position → Position → Option ℕ → Checked
-position_check None at mark = Ended
-position_check (Some top) at mark =
+position_check None at behind_at = Ended
+position_check (Some top) at behind_at =
     if not (bytes_eq top.epoch at.epoch) then Ended
     else if nat_le top.offset at.offset then Fine
-    else behind at.offset mark
+    else behind at.offset behind_at

@@ -23,8 +23,8 @@ pub data Subscription (B : Type 0) : Type 0 where
   Asked : (id : ℕ) → (since : Option Position) → (buffer : B) → Subscription B
   -- the stream was read
   Ready : (id : ℕ) → (was_recovering : Bool) → (reading : Reading) → (buffer : B) → Subscription B
-  -- the reply was given, and what followed up to this position; the mark is the position check's
-  On : (at : Position) → (mark : Option ℕ) → Subscription B
+  -- the reply was given, and what followed up to this position; and where a check found it behind
+  On : (at : Position) → (behind_at : Option ℕ) → Subscription B
 
 pub record SessionState (B N : Type 0) : Type 0 where
   -- by channel
@@ -125,7 +125,7 @@ read_at wording channel reading Off session = session
 read_at wording channel reading (Asked id since buffer) session =
     put_sub channel (Ready id (is_some since) reading (wording.with_read buffer)) session
 read_at wording channel reading (Ready id was earlier buffer) session = session
-read_at wording channel reading (On at mark) session = session
+read_at wording channel reading (On at behind_at) session = session
 
 abbrev pub reads : {B N : Type 0} → Wording B N → List ℕ → Reading → SessionState B N → SessionState B N
 reads wording channel reading session = read_at wording channel reading (session.subs channel) session
@@ -135,10 +135,10 @@ reads wording channel reading session = read_at wording channel reading (session
 abbrev pub by_verdict : {B N : Type 0} → Wording B N → List ℕ → Position → Option ℕ → Verdict
     → SessionState B N
     → SessionState B N
-by_verdict wording channel came mark Drop session = session
-by_verdict wording channel came mark Pass session =
-    push wording (wording.place channel came) (put_sub channel (On came mark) session)
-by_verdict wording channel came mark Insufficient session =
+by_verdict wording channel came behind_at Drop session = session
+by_verdict wording channel came behind_at Pass session =
+    push wording (wording.place channel came) (put_sub channel (On came behind_at) session)
+by_verdict wording channel came behind_at Insufficient session =
     push wording (wording.end channel) (put_sub channel Off session)
 
 abbrev pub come_at : {B N : Type 0} → Wording B N → List ℕ → Position → Subscription B → SessionState B N
@@ -148,7 +148,8 @@ come_at wording channel came (Asked id since buffer) session =
     put_sub channel (Asked id since (wording.with_one came buffer)) session
 come_at wording channel came (Ready id was reading buffer) session =
     put_sub channel (Ready id was reading (wording.with_one came buffer)) session
-come_at wording channel came (On at mark) session = by_verdict wording channel came mark (verdict at came) session
+come_at wording channel came (On at behind_at) session =
+    by_verdict wording channel came behind_at (verdict at came) session
 
 abbrev pub comes : {B N : Type 0} → Wording B N → List ℕ → Position → SessionState B N → SessionState B N
 comes wording channel came session = come_at wording channel came (session.subs channel) session
@@ -173,7 +174,7 @@ finish_at wording channel (Asked id since buffer) session = session
 finish_at wording channel (Ready id was reading buffer) session =
     says wording (finish_notes wording channel id was reading buffer)
     (put_sub channel (finished wording reading buffer) session)
-finish_at wording channel (On at mark) session = session
+finish_at wording channel (On at behind_at) session = session
 
 abbrev pub finishes : {B N : Type 0} → Wording B N → List ℕ → SessionState B N → SessionState B N
 finishes wording channel session = finish_at wording channel (session.subs channel) session
@@ -191,7 +192,8 @@ abbrev pub check_at : {B N : Type 0} → Wording B N → List ℕ → Option Pos
 check_at wording channel top Off session = session
 check_at wording channel top (Asked id since buffer) session = session
 check_at wording channel top (Ready id was reading buffer) session = session
-check_at wording channel top (On at mark) session = by_check wording channel at (position_check top at mark) session
+check_at wording channel top (On at behind_at) session =
+    by_check wording channel at (position_check top at behind_at) session
 
 abbrev pub checks : {B N : Type 0} → Wording B N → List ℕ → Option Position → SessionState B N
     → SessionState B N
@@ -203,25 +205,25 @@ abbrev pub is_off : {B : Type 0} → Subscription B → Bool
 is_off Off = true
 is_off (Asked id since buffer) = false
 is_off (Ready id was reading buffer) = false
-is_off (On at mark) = false
+is_off (On at behind_at) = false
 
 abbrev pub is_asked : {B : Type 0} → Subscription B → Bool
 is_asked Off = false
 is_asked (Asked id since buffer) = true
 is_asked (Ready id was reading buffer) = false
-is_asked (On at mark) = false
+is_asked (On at behind_at) = false
 
 abbrev pub is_ready : {B : Type 0} → Subscription B → Bool
 is_ready Off = false
 is_ready (Asked id since buffer) = false
 is_ready (Ready id was reading buffer) = true
-is_ready (On at mark) = false
+is_ready (On at behind_at) = false
 
 abbrev pub is_unfinished : {B : Type 0} → Subscription B → Bool
 is_unfinished Off = false
 is_unfinished (Asked id since buffer) = true
 is_unfinished (Ready id was reading buffer) = true
-is_unfinished (On at mark) = false
+is_unfinished (On at behind_at) = false
 
 -- How a session speaks in notes: what it says stands in positions, with no data, and of what came before a reply it
 -- keeps the positions alone. A note weighs as much as its one written text, by the publication lists; a close has no

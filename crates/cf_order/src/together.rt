@@ -15,13 +15,13 @@ pub const MOST_ENTRIES: u64 = 1 << 62;
 
 /// Which word is meant. Of what lies under a lock nothing is known but its type, so the type carries the word's name; each
 /// call of a program picks it.
-pub trait Naming {
+pub trait WordNaming {
     ghost use Rattle.atomic_table.specs.Seated.{TableId};
 
     ghost word: { TableId };
 }
 
-impl Naming for Brand {
+impl WordNaming for Brand {
     ghost use Rattle.std.specs.Prelude.{[]};
 
     ghost word = { record {
@@ -37,12 +37,12 @@ impl Naming for Brand {
 
 /// The owner of a word of this name, to lie under a lock. Contracts see it as the shard's log.
 #[derive(Drop)]
-pub struct NamedOwner<N: Naming> {
+pub struct NamedOwner<N: WordNaming> {
     owner: Owner,
     of: PhantomData<N>,
 }
 
-impl<N: Naming> Model for NamedOwner<N> {
+impl<N: WordNaming> Model for NamedOwner<N> {
     ghost use Rattle.std.specs.Prelude.{◌≡◌, List};
     ghost use Rattle.cf_protocol.specs.LogEntry.{Entry};
 
@@ -53,7 +53,7 @@ impl<N: Naming> Model for NamedOwner<N> {
     ghost invariant = { λ o. o.owner.word ≡ N.word };
 }
 
-impl<N: Naming> NamedOwner<N> {
+impl<N: WordNaming> NamedOwner<N> {
     /// The owner of the word that `N` names.
     pub fn new(owner: Owner) -> NamedOwner<N>
         requires { owner.word ≡ N.word }
@@ -90,7 +90,7 @@ impl<N: Naming> NamedOwner<N> {
 
 /// Publishes a body that no client published, under the lock, and gives the pass back with whether it did.
 #[tactic(auto, using(crate::proofs::Gaining::gains_append))]
-fn publish_as<'a, N: Naming, R: Wait>(
+fn publish_as<'a, N: WordNaming, R: Wait>(
     rt: &R,
     word: &ShardWord,
     owner: &Mutex<NamedOwner<N>>,
@@ -118,7 +118,7 @@ fn publish_as<'a, N: Naming, R: Wait>(
 /// Two threads publish a body each to one channel, with passes that are lent to them and handed back. If both did, the
 /// pass has seen both publications, behind all that it had seen before, and two publishes more are its own. If one did not, the
 /// pass has seen a log that is full.
-pub fn publish_both<N: Naming + Send + Sync, R: Threads + Wait + Sync>(
+pub fn publish_both<N: WordNaming + Send + Sync, R: Threads + Wait + Sync>(
     rt: &R,
     word: &ShardWord,
     owner: &Mutex<NamedOwner<N>>,

@@ -12,7 +12,8 @@ use Rattle.cf_protocol.specs.Outgoing.{Pinged, Failed, Publication, Unsubscribe,
 use Rattle.cf_protocol.specs.Fields.{look_up, object_as, object_or_none, objects, as_whole, present, ◌>>=◌, both}
 use Rattle.cf_protocol.specs.Fields.{max_u32, max_u64, the_only}
 use Rattle.cf_protocol.specs.Reply as reading
-use Rattle.cf_protocol.specs.Reply.{results, result_of, answer_from, push_or, push_from, reply_from, reply_of, code_in}
+use Rattle.cf_protocol.specs.Reply.{results, result_of, answer_from, push_or, push_from, outgoing_from, outgoing_in}
+use Rattle.cf_protocol.specs.Reply.{code_in}
 use Rattle.cf_protocol.specs.Frame.{replies_of}
 use Rattle.cf_protocol.specs.Written as written
 use Rattle.cf_protocol.specs.Written.{Member, ◌⇒◌, object_of, inner, info_or_none, reply, unsubscribed}
@@ -105,7 +106,7 @@ read_failed code h =
 -- ---- replies
 
 some_fields : (k : List ℕ) (t : Tree) (r : Fields) → look_up k r ≡ Some t
-    → reply_from r ≡ push_or (answer_from r) (present r "push")
+    → outgoing_from r ≡ push_or (answer_from r) (present r "push")
 some_fields k t [] e = absurd (false≢true (ap is_some e))
 some_fields k t (g ∷ gs) e = refl
 
@@ -119,9 +120,9 @@ answered r ms id x at e h is =
 
 an_answer : (ms : List Member) (id : ℕ) (x : Outcome) (k : Name) (t : Tree) → are_plain ms ≡ true
     → slot (codes k) ms ≡ Some t → slot (codes "id") ms ≡ written.whole id → slot (codes "push") ms ≡ None → IsCode id
-    → the_only (each_found results (λ k. slot k ms)) ≡ Some x → reply_of (object_of ms) ≡ Some (Answer id x ∷ [])
+    → the_only (each_found results (λ k. slot k ms)) ≡ Some x → outgoing_in (object_of ms) ≡ Some (Answer id x ∷ [])
 an_answer ms id x k t plain there e no_push h is =
-    read_object reply_from ms (Some (Answer id x ∷ [])) plain (λ r at.
+    read_object outgoing_from ms (Some (Answer id x ∷ [])) plain (λ r at.
     some_fields (codes k) t r (at (codes k) ∙ there) ∙ rw (at (codes "push") ∙ no_push) (answered r ms id x at e h is))
 
 error_stands : (code : ℕ) → IsCode code → stands (written.error code) ≡ true
@@ -129,17 +130,17 @@ error_stands zero h = absurd (omega (arith, h.0))
 error_stands (suc n) h = rw (ne_eqb (suc n) 0 (omega arith)) refl
 
 read_failure : (id code : ℕ) → IsCode id → IsCode code
-    → reply_of (object_of (("error" ⇒ inner (written.error code)) ∷ ("id" ⇒ written.whole id) ∷ []))
+    → outgoing_in (object_of (("error" ⇒ inner (written.error code)) ∷ ("id" ⇒ written.whole id) ∷ []))
     ≡ Some (Answer id (Failed code) ∷ [])
 read_failure id code h g =
     let error = object_of (written.error code) in
-    ap (λ o. reply_of (object_of (("error" ⇒ o) ∷ ("id" ⇒ written.whole id) ∷ [])))
+    ap (λ o. outgoing_in (object_of (("error" ⇒ o) ∷ ("id" ⇒ written.whole id) ∷ [])))
     (inner_stands (written.error code) (error_stands code g))
     ∙ an_answer (("error" ⇒ Some error) ∷ ("id" ⇒ written.whole id) ∷ []) id (Failed code) "error" error refl refl refl
     refl h (read_failed code g)
 
 read_answer : JsonLaws → (tree : List ℕ → Tree) (id : ℕ) (x : Outcome) → IsCode id → IsRegularOutcome (Bodies tree) x
-    → reply_of (object_of (reply tree id x)) ≡ Some (Answer id x ∷ [])
+    → outgoing_in (object_of (reply tree id x)) ≡ Some (Answer id x ∷ [])
 read_answer j tree id (Connected client) h g =
     an_answer (reply tree id (Connected client)) id (Connected client) "connect" _ refl refl refl refl h
     (read_connected j client)
@@ -170,15 +171,15 @@ push_stands : (channel : List ℕ) (k : Name) (t : Tree)
 push_stands channel k t = or_right (is_some (written.text channel)) true refl
 
 some_push : (ms : List Member) (o : Outgoing) → stands ms ≡ true → object_as push_from (object_of ms) ≡ Some (o ∷ [])
-    → reply_of (object_of (("push" ⇒ inner ms) ∷ [])) ≡ Some (o ∷ [])
+    → outgoing_in (object_of (("push" ⇒ inner ms) ∷ [])) ≡ Some (o ∷ [])
 some_push ms o s e =
     let t = object_of ms in
-    ap (λ p. reply_of (object_of (("push" ⇒ p) ∷ []))) (inner_stands ms s)
-    ∙ read_object reply_from (("push" ⇒ Some t) ∷ []) (Some (o ∷ [])) refl
+    ap (λ p. outgoing_in (object_of (("push" ⇒ p) ∷ []))) (inner_stands ms s)
+    ∙ read_object outgoing_from (("push" ⇒ Some t) ∷ []) (Some (o ∷ [])) refl
     (λ r at. some_fields (codes "push") t r (at (codes "push")) ∙ rw (at (codes "push")) e)
 
 read_pub : JsonLaws → (tree : List ℕ → Tree) (channel : List ℕ) (p : Placed) → IsPlaced (Bodies tree) p
-    → reply_of (object_of (written.outgoing tree (Push channel (Publication p))))
+    → outgoing_in (object_of (written.outgoing tree (Push channel (Publication p))))
     ≡ Some (Push channel (Publication p) ∷ [])
 read_pub j tree channel p h =
     let t = written.publication tree p in
@@ -195,12 +196,12 @@ unsubscribed_stands zero h = absurd (omega (arith, h.0))
 unsubscribed_stands (suc n) h = rw (ne_eqb (suc n) 0 (omega arith)) refl
 
 read_unsubscribe : JsonLaws → (tree : List ℕ → Tree) (channel : List ℕ) (code : ℕ) → IsCode code
-    → reply_of (object_of (written.outgoing tree (Push channel (Unsubscribe code))))
+    → outgoing_in (object_of (written.outgoing tree (Push channel (Unsubscribe code))))
     ≡ Some (Push channel (Unsubscribe code) ∷ [])
 read_unsubscribe j tree channel code h =
     let t = object_of (unsubscribed code) in
     let ms = ("channel" ⇒ written.text channel) ∷ ("unsubscribe" ⇒ Some t) ∷ [] in
-    ap (λ o. reply_of (object_of (("push" ⇒ inner (("channel" ⇒ written.text channel) ∷ ("unsubscribe" ⇒ o) ∷ []))
+    ap (λ o. outgoing_in (object_of (("push" ⇒ inner (("channel" ⇒ written.text channel) ∷ ("unsubscribe" ⇒ o) ∷ []))
     ∷ []))) (inner_stands (unsubscribed code) (unsubscribed_stands code h))
     ∙ some_push ms (Push channel (Unsubscribe code)) (push_stands channel "unsubscribe" t)
     (read_object push_from ms (Some (Push channel (Unsubscribe code) ∷ [])) refl (λ r at.
@@ -211,7 +212,7 @@ read_unsubscribe j tree channel code h =
     (reads _ (read_none reading.publication r "pub" (at (codes "pub"))) refl)))))
 
 pub read_outgoing : JsonLaws → (tree : List ℕ → Tree) (o : Outgoing) → IsRegularOutgoing (Bodies tree) o
-    → reply_of (object_of (written.outgoing tree o)) ≡ Some (o ∷ [])
+    → outgoing_in (object_of (written.outgoing tree o)) ≡ Some (o ∷ [])
 read_outgoing j tree Ping h = refl
 read_outgoing j tree (Answer id x) h = read_answer j tree id x h.0 h.1
 read_outgoing j tree (Push channel (Publication p)) h = read_pub j tree channel p h

@@ -8,7 +8,7 @@ use Rattle.cf_protocol.specs.Request.{Command}
 use Rattle.cf_protocol.specs.Outgoing.{Outgoing}
 use Rattle.cf_protocol.specs.Fields.{read_all}
 use Rattle.cf_protocol.specs.Command.{command_of}
-use Rattle.cf_protocol.specs.Reply.{reply_of}
+use Rattle.cf_protocol.specs.Reply.{outgoing_in}
 
 -- A frame without a value is unreadable, and so is one with an unreadable value.
 abbrev pub unless_empty : {A : Type 0} → (List Tree → Option A) → List Tree → Option A
@@ -29,11 +29,11 @@ abbrev pub IsCommands : List ℕ → List Command → Type 0
 IsCommands = FrameOf commands_of
 
 -- the replies and pushes of all of them, without what is passed over
-abbrev pub all_replies_of : List Tree → Option (List Outgoing)
-all_replies_of ts = option_map (flat_map (λ os. os)) (read_all reply_of ts)
+abbrev pub all_outgoing_in : List Tree → Option (List Outgoing)
+all_outgoing_in ts = option_map (flat_map (λ os. os)) (read_all outgoing_in ts)
 
 abbrev pub replies_of : List Tree → Option (List Outgoing)
-replies_of = unless_empty all_replies_of
+replies_of = unless_empty all_outgoing_in
 
 abbrev pub IsReplies : List ℕ → List Outgoing → Type 0
 IsReplies = FrameOf replies_of

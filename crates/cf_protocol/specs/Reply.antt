@@ -100,9 +100,9 @@ push_or answer None = answer
 push_or answer (Some t) = object_as push_from t
 
 -- An object without members is the ping. None: unreadable. A push that is passed over gives nothing.
-abbrev pub reply_from : Fields → Option (List Outgoing)
-reply_from [] = Some (Ping ∷ [])
-reply_from (f ∷ fs) = push_or (answer_from (f ∷ fs)) (present (f ∷ fs) "push")
+abbrev pub outgoing_from : Fields → Option (List Outgoing)
+outgoing_from [] = Some (Ping ∷ [])
+outgoing_from (f ∷ fs) = push_or (answer_from (f ∷ fs)) (present (f ∷ fs) "push")
 
-abbrev pub reply_of : Tree → Option (List Outgoing)
-reply_of = object_as reply_from
+abbrev pub outgoing_in : Tree → Option (List Outgoing)
+outgoing_in = object_as outgoing_from

@@ -113,7 +113,7 @@ its_section [] n h = absurd (omega (arith, h))
 its_section (y ∷ ys) zero h = (y, refl)
 its_section (y ∷ ys) (suc n) h = its_section ys n (omega (arith, h))
 
--- ---- sections that leave clients and their seats as they are
+-- ---- sections that leave clients and their connections as they are
 
 abbrev pub IsAside : Section → Type 0
 IsAside (Attaches x n) = ⊥
@@ -124,7 +124,7 @@ IsAside other = Unit {0}
 
 module _ (site : Site) (s : Server) where
   abbrev Same : Server → Type 0
-  Same v = (v.clients ≡ s.clients) × (v.seats ≡ s.seats)
+  Same v = (v.clients ≡ s.clients) × (v.connection_of ≡ s.connection_of)
 
   same-gains : (n : ℕ) (x : Entry) → Same (server.gains site n x s)
   same-gains n x = by_test Same (server.can_gain site n x s) _ _ (λ e. (refl, refl)) (λ e. (refl, refl))
@@ -183,7 +183,8 @@ module _ (site : Site) (s : Server) where
   stays (Closes k code) h = (refl, refl)
   stays (Wanders n) h = by_test Same (nat_lt n site.config.nodes) _ _ (λ e. (refl, refl)) (λ e. (refl, refl))
   stays (Strays k e) h =
-      by_test Same (server.is_seat k (s.seats (s.connections k).client)) _ _ (λ e. (refl, refl)) (λ e. (refl, refl))
+      by_test Same (server.is_connection k (s.connection_of (s.connections k).client)) _ _ (λ e. (refl, refl))
+      (λ e. (refl, refl))
   stays (Attaches x n) h = absurd h
   stays (Sends x e) h = absurd h
   stays (Receives x) h = absurd h
@@ -244,7 +245,7 @@ module _ (site : Site) (s : Server) where
         (λ b. answering.checked Q P c (lists_of site s) z.channel z.top (s.connections z.connection) b) a
 
     -- the connection is a client's own, so that no stray command reaches it
-    pub keeps : (x : Section) → IsAside x → (server.is_seat j (s.seats (s.connections j).client) ≡ true)
+    pub keeps : (x : Section) → IsAside x → (server.is_connection j (s.connection_of (s.connections j).client) ≡ true)
         → (x ≡ AsksShard j → AreRightFor Q P c site s (s.connections j).session (s.connections j).work) → Has s
         → Has (server_after site x s)
     keeps (Gains (Publish d key x)) h o r a = a
@@ -324,9 +325,10 @@ module _ (site : Site) (s : Server) where
         fresh : (k : Connection) → A k → A (at_number s.connections s.count k j)
         fresh k b = by_test A (j == s.count) _ _ (λ e. b) (λ e. a)
     keeps (Strays k e) h o r a =
-        by_test Has (server.is_seat k (s.seats (s.connections k).client)) _ _ (λ f. a)
+        by_test Has (server.is_connection k (s.connection_of (s.connections k).client)) _ _ (λ f. a)
         (λ f. changed k (λ (x : Connection). record x { up = x.up ++ e ∷ [] })
-        (λ is. absurd (let g : true ≡ false = sym o ∙ ap (λ z. server.is_seat z (s.seats (s.connections z).client))
+        (λ is. absurd (let g : true ≡ false = sym o ∙ ap
+        (λ z. server.is_connection z (s.connection_of (s.connections z).client))
         (sym is) ∙ f in cc)) a)
     keeps (Attaches x n) h o r a = absurd h
     keeps (Sends x e) h o r a = absurd h

@@ -49,7 +49,7 @@ pub record WasReadFor (site : Site) (sections : List Section) (x c : List ℕ) (
   pub after : asked < read
   pub before : read < n
   pub asks : slice_get sections read ≡ Some (AsksShard connection)
-  pub its_own : (after_first site sections read).seats x ≡ Some connection
+  pub its_own : (after_first site sections read).connection_of x ≡ Some connection
   pub stood : life_of site (after_first site sections read) c ≡ Some life
   pub is : r ≡ read_of since (state_of life)
 
@@ -69,7 +69,7 @@ AnsweredOf site sections x c asked n y id was r =
 pub record Waits (site : Site) (sections : List Section) (x c : List ℕ) (n : ℕ) (s : Server) : Type 0 where
   pub asked : ℕ
   pub mode : HasAsked site sections x c asked n ((s.clients x).modes c)
-  pub answers : (k : ℕ) → s.seats x ≡ Some k → Answers (AsksOf (s.clients x) c)
+  pub answers : (k : ℕ) → s.connection_of x ≡ Some k → Answers (AsksOf (s.clients x) c)
       (AnsweredOf site sections x c asked n (s.clients x)) c (s.connections k)
 
 some_is : (j k : ℕ) → ◌≡◌ {A = Option ℕ} (Some j) (Some k) → j ≡ k
@@ -134,7 +134,7 @@ module _ (site : Site) (sections : List Section) (x c : List ℕ) where
 
   -- the ask that is out is right for a reading that is made now
   right-now : (asked n : ℕ) (m : Mode) (k : ℕ) (l : Life) (since : Option Position)
-      → slice_get sections n ≡ Some (AsksShard k) → (S n).seats x ≡ Some k → life_of site (S n) c ≡ Some l
+      → slice_get sections n ≡ Some (AsksShard k) → (S n).connection_of x ≡ Some k → life_of site (S n) c ≡ Some l
       → HasAsked site sections x c asked n m → (i : ℕ) (y : Option Position) → y ≡ since → SinceFits m i y
       → ReplyFits (WasReadFor site sections x c asked (suc n)) m i (is_some y) (read_of since (state_of l))
   right-now asked n (Idle last) k l since e at stood h i y f q = tt
@@ -155,7 +155,7 @@ module _ (site : Site) (sections : List Section) (x c : List ℕ) where
   )
 
   right-for : (asked n k : ℕ) (y : Client) (v : Session) (w : Work) → slice_get sections n ≡ Some (AsksShard k)
-      → (S n).seats x ≡ Some k
+      → (S n).connection_of x ≡ Some k
       → HasAsked site sections x c asked n (y.modes c) → IsRight w v
       → AreRightFor (AsksOf y c) (P asked (suc n) y) c site (S n) v w
   right-for asked n k y v (Began d id since) e at h r = λ l stood f i z b sub q.
@@ -179,12 +179,12 @@ module _ (site : Site) (sections : List Section) (x c : List ℕ) where
     abbrev A : Connection → Type 0
     A k = Answers (AsksOf me c) (P h.asked (suc n) me) c k
 
-    its-link : (w : World) → Beside site (S n) w → (k : ℕ) → (S n).seats x ≡ Some k
+    its-link : (w : World) → Beside site (S n) w → (k : ℕ) → (S n).connection_of x ≡ Some k
         → Linked ((S n).connections k) me (w.links x)
     its-link w b k at = subst (λ o. BesideClient (S n).connections me o (w.links x)) at (b.clients x)
 
     -- as it was, one section later
-    as_it_was : (k : ℕ) → (S n).seats x ≡ Some k → A ((S n).connections k)
+    as_it_was : (k : ℕ) → (S n).connection_of x ≡ Some k → A ((S n).connections k)
     as_it_was k at =
         more (AsksOf me c) (P h.asked n me) (AsksOf me c) (P h.asked (suc n) me) c (λ id since q. q)
         (λ id was r p. (
@@ -197,7 +197,7 @@ module _ (site : Site) (sections : List Section) (x c : List ℕ) where
 
     -- what the client knows goes on, and its connection with it
     goes : (v : Server) → S (suc n) ≡ v → GoesTo (me.modes c) ((v.clients x).modes c)
-        → ((k : ℕ) → v.seats x ≡ Some k → (me.fresh ≤ (v.clients x).fresh) × A (v.connections k))
+        → ((k : ℕ) → v.connection_of x ≡ Some k → (me.fresh ≤ (v.clients x).fresh) × A (v.connections k))
         → Waits site sections x c (suc n) v
     goes v e g a = record {
       asked = h.asked;
@@ -231,11 +231,12 @@ module _ (site : Site) (sections : List Section) (x c : List ℕ) where
         let st = stays site (S n) y side in
         goes v next (inl (ap (λ (f : List ℕ → Client). (f x).modes c) st.0))
         (λ k at.
-        let was : (S n).seats x ≡ Some k = ap (λ (f : List ℕ → Option ℕ). f x) (sym st.1) ∙ at in
+        let was : (S n).connection_of x ≡ Some k = ap (λ (f : List ℕ → Option ℕ). f x) (sym st.1) ∙ at in
         let own : ((S n).connections k).client ≡ x = (b.owns x k was).0 in (
           subst (λ (f : List ℕ → Client). me.fresh ≤ (f x).fresh) (sym st.0) (le_refl _),
           keeps site (S n) (AsksOf me c) (P h.asked (suc n) me) c k y side
-              (ap (λ z. server.is_seat k ((S n).seats z)) own ∙ ap (server.is_seat k) was ∙ itself k)
+              (ap (λ z. server.is_connection k ((S n).connection_of z)) own ∙ ap (server.is_connection k) was
+              ∙ itself k)
               (λ is. right-for h.asked n k me ((S n).connections k).session ((S n).connections k).work (e ∙ ap Some is)
               was h.mode (its-link w b k was).right)
               (as_it_was k was),
@@ -248,7 +249,8 @@ module _ (site : Site) (sections : List Section) (x c : List ℕ) where
         ]
 
     -- it goes, or another does
-    parts-step : (y : List ℕ) (connections : ℕ → Connection) → ((k : ℕ) → (S n).seats x ≡ Some k → A (connections k))
+    parts-step : (y : List ℕ) (connections : ℕ → Connection)
+        → ((k : ℕ) → (S n).connection_of x ≡ Some k → A (connections k))
         → S (suc n) ≡ server.parts y (record (S n) { connections = connections })
         → Waits site sections x c (suc n) (server.parts y (record (S n) { connections = connections }))
     parts-step y connections a next =
@@ -259,12 +261,13 @@ module _ (site : Site) (sections : List Section) (x c : List ℕ) where
           | inr e ↦ inl (ap (λ (t : Bool). (if t then reconnects ((S n).clients y) else me).modes c) e.0)
         ])
         (λ k at. elim (text_tells x y) [
-          | inl e ↦ absurd (let f : None ≡ Some k = sym (ap (λ (t : Bool). if t then None else (S n).seats x) e.0)
+          | inl e ↦ absurd (let f : None ≡ Some k = sym
+              (ap (λ (t : Bool). if t then None else (S n).connection_of x) e.0)
               ∙ at in cc)
           | inr e ↦ (
             subst (λ (z : Client). me.fresh ≤ z.fresh) (sym
                 (ap (λ (t : Bool). if t then reconnects ((S n).clients y) else me) e.0)) (le_refl _),
-            a k (sym (ap (λ (t : Bool). if t then None else (S n).seats x) e.0) ∙ at),
+            a k (sym (ap (λ (t : Bool). if t then None else (S n).connection_of x) e.0) ∙ at),
           )
         ])
 
@@ -275,7 +278,7 @@ module _ (site : Site) (sections : List Section) (x c : List ℕ) where
 
     -- a note reaches it, or another
     hears-step : (y : List ℕ) (note : Note) (connections : ℕ → Connection)
-        → ((k : ℕ) → (S n).seats x ≡ Some k → A (connections k))
+        → ((k : ℕ) → (S n).connection_of x ≡ Some k → A (connections k))
         → S (suc n) ≡ record (S n) {
           connections = connections;
           clients = with (S n).clients y (hears note ((S n).clients y));
@@ -304,7 +307,7 @@ module _ (site : Site) (sections : List Section) (x c : List ℕ) where
         ))
 
     gets-step : (y : List ℕ) (note : Note) (connections : ℕ → Connection)
-        → ((k : ℕ) → (S n).seats x ≡ Some k → A (connections k))
+        → ((k : ℕ) → (S n).connection_of x ≡ Some k → A (connections k))
         → S (suc n) ≡ server.gets y note (record (S n) { connections = connections })
         → Waits site sections x c (suc n) (server.gets y note (record (S n) { connections = connections }))
     gets-step y (Close code) connections a next = parts-step y connections a next
@@ -350,7 +353,7 @@ module _ (site : Site) (sections : List Section) (x c : List ℕ) where
         joined = record (S n) {
           connections = at_number (S n).connections (S n).count new;
           count = (S n).count + 1;
-          seats = with (S n).seats y (Some (S n).count);
+          connection_of = with (S n).connection_of y (Some (S n).count);
         }
 
         others : (j : ℕ) → A ((S n).connections j) → A (at_number (S n).connections (S n).count new j)
@@ -372,10 +375,12 @@ module _ (site : Site) (sections : List Section) (x c : List ℕ) where
           elim (text_tells x y) [
             | inl f ↦
                 let is : (S n).count ≡ k =
-                some_is (S n).count k (sym (ap (λ (t : Bool). if t then Some (S n).count else (S n).seats x) f.0)
+                some_is (S n).count k (sym (ap (λ (t : Bool). if t then Some (S n).count else (S n).connection_of x)
+                f.0)
                 ∙ at) in
                 subst (λ z. A (at_number (S n).connections (S n).count new z)) is own
-            | inr f ↦ others k (as_it_was k (sym (ap (λ (t : Bool). if t then Some (S n).count else (S n).seats x) f.0)
+            | inr f ↦ others k (as_it_was k (sym (ap (λ (t : Bool). if t then Some (S n).count
+                else (S n).connection_of x) f.0)
                 ∙ at))
           ],
         ))
@@ -493,7 +498,7 @@ module _ (site : Site) (sections : List Section) (x c : List ℕ) where
         by_can (nat_le me.fresh last_id && may_send me e) (said x k (request_by me e))
         (λ f. own-sends k e (request_by me e) is refl f) next
 
-    other-step : (y : List ℕ) (e : ClientCommand) (o : Option ℕ) → x ≢ y → (S n).seats y ≡ o
+    other-step : (y : List ℕ) (e : ClientCommand) (o : Option ℕ) → x ≢ y → (S n).connection_of y ≡ o
         → S (suc n) ≡ server.sends_by y e o (S n) → (w : World) → Beside site (S n) w
         → Waits site sections x c (suc n) (server.sends_by y e o (S n))
     other-step y e None ne at next w b = unchanged next
@@ -514,14 +519,15 @@ module _ (site : Site) (sections : List Section) (x c : List ℕ) where
         r = request_by ((S n).clients y) e
 
     sends-step : (y : List ℕ) (e : ClientCommand) → slice_get sections n ≡ Some (Sends y e)
-        → S (suc n) ≡ server.sends_by y e ((S n).seats y) (S n) → (w : World) → Beside site (S n) w
-        → Waits site sections x c (suc n) (server.sends_by y e ((S n).seats y) (S n))
+        → S (suc n) ≡ server.sends_by y e ((S n).connection_of y) (S n) → (w : World) → Beside site (S n) w
+        → Waits site sections x c (suc n) (server.sends_by y e ((S n).connection_of y) (S n))
     sends-step y e is next w b = elim (text_tells x y) [
       | inl i ↦
-          subst (λ z. slice_get sections n ≡ Some (Sends z e) → S (suc n) ≡ server.sends_by z e ((S n).seats z) (S n)
-          → Waits site sections x c (suc n) (server.sends_by z e ((S n).seats z) (S n))) i.1
-          (own-step e ((S n).seats x)) is next
-      | inr i ↦ other-step y e ((S n).seats y) i.1 refl next w b
+          subst (λ z. slice_get sections n ≡ Some (Sends z e)
+          → S (suc n) ≡ server.sends_by z e ((S n).connection_of z) (S n)
+          → Waits site sections x c (suc n) (server.sends_by z e ((S n).connection_of z) (S n))) i.1
+          (own-step e ((S n).connection_of x)) is next
+      | inr i ↦ other-step y e ((S n).connection_of y) i.1 refl next w b
     ]
 
     -- ---- each section
@@ -529,9 +535,9 @@ module _ (site : Site) (sections : List Section) (x c : List ℕ) where
     step : (y : Section) → slice_get sections n ≡ Some y → S (suc n) ≡ server_after site y (S n) → (w : World)
         → Beside site (S n) w → Waits site sections x c (suc n) (server_after site y (S n))
     step (Sends y e) is next w b = sends-step y e is next w b
-    step (Receives y) is next w b = receives-step y ((S n).seats y) next
-    step (Breaks y) is next w b = breaks-step y ((S n).seats y) next
-    step (Attaches y node) is next w b = attaches-step y node ((S n).seats y) next
+    step (Receives y) is next w b = receives-step y ((S n).connection_of y) next
+    step (Breaks y) is next w b = breaks-step y ((S n).connection_of y) next
+    step (Attaches y node) is next w b = attaches-step y node ((S n).connection_of y) next
     step (Gains entry) is next w b = aside-step (Gains entry) tt is next w b
     step (Sizes shard name i) is next w b = aside-step (Sizes shard name i) tt is next w b
     step (Publishes k) is next w b = aside-step (Publishes k) tt is next w b

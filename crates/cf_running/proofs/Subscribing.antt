@@ -71,24 +71,26 @@ record IsToldAt (site : Site) (s : Server) (xs : List Section) (i : ℕ) (t : To
 where_told : (site : Site) (xs : List Section) (s : Server) (i : ℕ) (t : Told) → slice_get (told site s xs) i ≡ Some t
     → IsToldAt site s xs i t
 where_told site [] s i t e = absurd (cc)
-where_told site (x ∷ xs) s i t e = elim (get-append (tells site x s) (told site (server.server_after site x s) xs) i t e) [
-  | inl h ↦ record { n = 0; section = x; is = refl; j = i; tells_it = h; number = omega arith }
-  | inr h ↦
-      let w = where_told site xs (server.server_after site x s) h.0 t h.2 in
-      let more : length (tells site x s ++ told site (server.server_after site x s) (take w.n xs)) ≡ length (tells site x s)
-      + length (told site (server.server_after site x s) (take w.n xs)) =
-      append-length (tells site x s) (told site (server.server_after site x s) (take w.n xs)) in
-      let below : length (told site (server.server_after site x s) (take w.n xs)) + w.j ≡ h.0 = w.number in
-      let here : i ≡ length (tells site x s) + h.0 = h.1 in
-      record {
-        n = suc w.n;
-        section = w.section;
-        is = w.is;
-        j = w.j;
-        tells_it = w.tells_it;
-        number = omega (arith, more, below, here);
-      }
-]
+where_told site (x ∷ xs) s i t e =
+    elim (get-append (tells site x s) (told site (server.server_after site x s) xs) i t e) [
+      | inl h ↦ record { n = 0; section = x; is = refl; j = i; tells_it = h; number = omega arith }
+      | inr h ↦
+          let w = where_told site xs (server.server_after site x s) h.0 t h.2 in
+          let more : length (tells site x s ++ told site (server.server_after site x s) (take w.n xs))
+          ≡ length (tells site x s)
+          + length (told site (server.server_after site x s) (take w.n xs)) =
+          append-length (tells site x s) (told site (server.server_after site x s) (take w.n xs)) in
+          let below : length (told site (server.server_after site x s) (take w.n xs)) + w.j ≡ h.0 = w.number in
+          let here : i ≡ length (tells site x s) + h.0 = h.1 in
+          record {
+            n = suc w.n;
+            section = w.section;
+            is = w.is;
+            j = w.j;
+            tells_it = w.tells_it;
+            number = omega (arith, more, below, here);
+          }
+    ]
 
 -- only where a note reaches a client something is told
 receives-only : (site : Site) (x : Section) (s : Server) (j : ℕ) (t : Told) → slice_get (tells site x s) j ≡ Some t
@@ -286,11 +288,12 @@ itself k = elim (number_tells k k) [
 ]
 
 its-client : (site : Site) (s : Server) (w : World) (x : List ℕ) → Beside site s w → (w.links x).client ≡ s.clients x
-its-client site s w x b = by_seat (s.seats x) (b.clients x)
+its-client site s w x b = by_connection (s.connection_of x) (b.clients x)
   where
-    by_seat : (o : Option ℕ) → BesideClient s.connections (s.clients x) o (w.links x) → (w.links x).client ≡ s.clients x
-    by_seat None h = ap (λ (l : ClientLink). l.client) h
-    by_seat (Some k) h = ap (λ (l : ClientLink). l.client) h.is
+    by_connection : (o : Option ℕ) → BesideClient s.connections (s.clients x) o (w.links x)
+        → (w.links x).client ≡ s.clients x
+    by_connection None h = ap (λ (l : ClientLink). l.client) h
+    by_connection (Some k) h = ap (λ (l : ClientLink). l.client) h.is
 
 below-top : (site : Site) (xs : List Section) (x c : List ℕ) (id : ℕ) (since last : Option Position) (l : Life)
     → ((ran site start xs).clients x).modes c ≡ Asking id since last → life_of site (ran site start xs) c ≡ Some l
@@ -326,11 +329,11 @@ module _ (site : Site) (sections : List Section) (i : ℕ) (x c : List ℕ) (was
   abbrev S : ℕ → Server
   S n = after_first site sections n
 
-  finish : (n j k : ℕ) → slice_get sections n ≡ Some (Receives x) → (S n).seats x ≡ Some k
+  finish : (n j k : ℕ) → slice_get sections n ≡ Some (Receives x) → (S n).connection_of x ≡ Some k
       → slice_get (first_items (lists_of site (S n)) ((S n).clients x) ((S n).connections k).way) j
       ≡ Some (Subscribed c was recovered at)
       → length (told site start (take n sections)) + j ≡ i → IsWhatWasRead site sections i x c was recovered at
-  finish n j k is seat e number =
+  finish n j k is its_connection e number =
       let lists : Lists = lists_of site (S n) in
       let r = which_note lists ((S n).clients x) ((S n).connections k).way j c was recovered at e in
       let low : n < length sections = below-length sections n (Receives x) is in
@@ -338,7 +341,7 @@ module _ (site : Site) (sections : List Section) (i : ℕ) (x c : List ℕ) (was
       let sent : SentAsk site sections x c h.asked r.id r.since n =
       subst (HasAsked site sections x c h.asked n) r.mode h.mode in
       let fits = (subst (NotesAre (AnsweredOf site sections x c h.asked n ((S n).clients x)) c) r.first
-      (h.answers k seat).way).0 refl in
+      (h.answers k its_connection).way).0 refl in
       let good : (was ≡ is_some r.since) × WasReadFor site sections x c h.asked n r.since r.reading =
       subst (λ z. ReplyFits (WasReadFor site sections x c h.asked n) z r.id was r.reading) r.mode fits.1 refl in
       let read = good.1 in
@@ -355,7 +358,7 @@ module _ (site : Site) (sections : List Section) (i : ℕ) (x c : List ℕ) (was
         told_by = n;
         receives = is;
         first = let zero : j ≡ 0 = r.only_first in omega (arith, number, zero);
-        brings = ap (λ o. server.told_at site x o (S n)) seat
+        brings = ap (λ o. server.told_at site x o (S n)) its_connection
             ∙ ap (telling x) (r.whole ∙ (λ a. reading_items lists c was (read.is a))
             ∙ ap (λ (is : List Item). Subscribed c was (read_of r.since st).recovered (read_to (read_of r.since st))
             ∷ is) (brought lists c r.since st)
@@ -381,16 +384,17 @@ module _ (site : Site) (sections : List Section) (i : ℕ) (x c : List ℕ) (was
   received : (n j : ℕ) (y : List ℕ) → slice_get sections n ≡ Some (Receives y)
       → slice_get (tells site (Receives y) (S n)) j ≡ Some (record { client = x; item = Subscribed c was recovered at })
       → length (told site start (take n sections)) + j ≡ i → IsWhatWasRead site sections i x c was recovered at
-  received n j y is e number = by_seat ((S n).seats y) refl e
+  received n j y is e number = by_connection ((S n).connection_of y) refl e
     where
-      by_seat : (o : Option ℕ) → (S n).seats y ≡ o → slice_get (server.told_at site y o (S n)) j
+      by_connection : (o : Option ℕ) → (S n).connection_of y ≡ o → slice_get (server.told_at site y o (S n)) j
           ≡ Some (record { client = x; item = Subscribed c was recovered at })
           → IsWhatWasRead site sections i x c was recovered at
-      by_seat None at e = absurd (cc)
-      by_seat (Some k) seat e =
+      by_connection None at e = absurd (cc)
+      by_connection (Some k) its_connection e =
           let g = get-telling y (first_items (lists_of site (S n)) ((S n).clients y) ((S n).connections k).way) j x
           (Subscribed c was recovered at) e in
-          finish n j k (is ∙ ap (λ z. Some (Receives z)) g.0) (ap (λ z. (S n).seats z) (sym g.0) ∙ seat)
+          finish n j k (is ∙ ap (λ z. Some (Receives z)) g.0)
+          (ap (λ z. (S n).connection_of z) (sym g.0) ∙ its_connection)
           (subst (λ z. slice_get (first_items (lists_of site (S n)) ((S n).clients z) ((S n).connections k).way) j
           ≡ Some (Subscribed c was recovered at)) g.0 g.1) number
 

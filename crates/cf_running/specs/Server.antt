@@ -84,7 +84,7 @@ pub record Server : Type 0 where
   pub count : ℕ
   -- by name: what a client knows, and which connection it has. One that its client has left goes on at its node.
   pub clients : List ℕ → Client
-  pub seats : List ℕ → Option ℕ
+  pub connection_of : List ℕ → Option ℕ
 
 abbrev pub nowhere : Connection
 nowhere = record { client = []; node = 0; session = opens; attached = false; work = Free; up = []; way = [] }
@@ -98,7 +98,7 @@ start = record {
   connections = λ k. nowhere;
   count = 0;
   clients = λ x. new_client;
-  seats = λ x. None;
+  connection_of = λ x. None;
 }
 
 -- ---- what is read off the logs
@@ -357,7 +357,7 @@ comes_to site x n None s =
     if nat_lt n site.config.nodes then record s {
       connections = at_number s.connections s.count (record nowhere { client = x; node = n; attached = true });
       count = s.count + 1;
-      seats = with s.seats x (Some s.count);
+      connection_of = with s.connection_of x (Some s.count);
     } else s
 
 -- somebody comes who is none of the clients, or a client whose connection is gone by then; and on a connection that
@@ -371,13 +371,14 @@ wanders site n s =
     }
     else s
 
-abbrev pub is_seat : ℕ → Option ℕ → Bool
-is_seat k None = false
-is_seat k (Some j) = j == k
+abbrev pub is_connection : ℕ → Option ℕ → Bool
+is_connection k None = false
+is_connection k (Some j) = j == k
 
 abbrev pub strays : ℕ → SentCommand → Server → Server
 strays k e s =
-    if is_seat k (s.seats (s.connections k).client) then s else change k (λ x. record x { up = x.up ++ e ∷ [] }) s
+    if is_connection k (s.connection_of (s.connections k).client) then s
+    else change k (λ x. record x { up = x.up ++ e ∷ [] }) s
 
 -- a position that was looked up is on its way
 abbrev pub looks_up : Site → ℕ → List ℕ → Server → Server
@@ -427,7 +428,10 @@ sends_by x e (Some k) s =
 
 -- its connection is gone
 abbrev pub parts : List ℕ → Server → Server
-parts x s = record s { seats = with s.seats x None; clients = with s.clients x (reconnects (s.clients x)) }
+parts x s = record s {
+  connection_of = with s.connection_of x None;
+  clients = with s.clients x (reconnects (s.clients x));
+}
 
 abbrev pub parts_from : List ℕ → Option ℕ → Server → Server
 parts_from x None s = s
@@ -519,12 +523,12 @@ server_after site (Delivers n) s = delivers_first site n (s.links n) s
 server_after site (Checks i) s = checks_by (words_of site s) (slice_get s.lookups i) s
 server_after site (Pings k) s = change k (at_session (push (words_of site s) PingDue)) s
 server_after site (Closes k code) s = change k (at_session (closes_now (Close code))) s
-server_after site (Attaches x n) s = comes_to site x n (s.seats x) s
+server_after site (Attaches x n) s = comes_to site x n (s.connection_of x) s
 server_after site (Wanders n) s = wanders site n s
 server_after site (Strays k e) s = strays k e s
-server_after site (Sends x e) s = sends_by x e (s.seats x) s
-server_after site (Receives x) s = receives_by x (s.seats x) s
-server_after site (Breaks x) s = parts_from x (s.seats x) s
+server_after site (Sends x e) s = sends_by x e (s.connection_of x) s
+server_after site (Receives x) s = receives_by x (s.connection_of x) s
+server_after site (Breaks x) s = parts_from x (s.connection_of x) s
 
 abbrev pub ran : Site → Server → List Section → Server
 ran site s [] = s
@@ -546,7 +550,7 @@ told_at site x (Some k) s = telling x (first_items (lists_of site s) (s.clients 
 
 -- only if a note reaches a client is its application told something
 abbrev pub tells : Site → Section → Server → List Told
-tells site (Receives x) s = told_at site x (s.seats x) s
+tells site (Receives x) s = told_at site x (s.connection_of x) s
 tells site other s = []
 
 abbrev pub told : Site → Server → List Section → List Told

@@ -60,7 +60,7 @@ pub record IsWhatWasRead (site : Site) (sections : List Section) (number : ℕ) 
   pub after : asked < read
   pub before : read < told_by
   pub asks : slice_get sections read ≡ Some (AsksShard connection)
-  pub its_own : (after_first site sections read).seats x ≡ Some connection
+  pub its_own : (after_first site sections read).connection_of x ≡ Some connection
   pub stood : life_of site (after_first site sections read) c ≡ Some life
   -- What is told is whether it asked from a position, where that stream stood, and whether that stream was of the
   -- position's epoch and held all above it, 300 at most.

@@ -242,15 +242,15 @@ module _ (P : Datum → Type 0) (site : Site) (s : Server) where
   kept (Sizes shard name n) has e = gains-kept shard (Size name n) tt
   kept (Publishes k) has e = publishes-kept k (s.connections k).work has
   kept (Checks i) has e = checks-kept (slice_get s.lookups i)
-  kept (Attaches x n) has e = comes-kept x n (s.seats x)
+  kept (Attaches x n) has e = comes-kept x n (s.connection_of x)
   kept (Wanders n) has e =
       by_test Kept (nat_lt n site.config.nodes) _ _ (λ h. still _ refl refl refl (one_above s.count)) (λ h. here)
   kept (Strays k c) has e =
-      by_test Kept (server.is_seat k (s.seats (s.connections k).client)) _ _ (λ h. here)
+      by_test Kept (server.is_connection k (s.connection_of (s.connections k).client)) _ _ (λ h. here)
       (λ h. still _ refl refl refl (at_least s.count))
-  kept (Sends x c) has e = sends-kept x c (s.seats x)
-  kept (Receives x) has e = receives-kept x (s.seats x)
-  kept (Breaks x) has e = parts-kept x (s.seats x)
+  kept (Sends x c) has e = sends-kept x c (s.connection_of x)
+  kept (Receives x) has e = receives-kept x (s.connection_of x)
+  kept (Breaks x) has e = parts-kept x (s.connection_of x)
   kept other has e = still (server_after site other s) refl refl refl (at_least s.count)
 
   delivers-grows : (n : ℕ) (is : List ℕ) → Grows P s (server.delivers_first site n is s)

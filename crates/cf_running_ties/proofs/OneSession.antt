@@ -201,13 +201,13 @@ module _ (is_aside : List ℕ → Bool) (site : Site) (s : Server) (n : ℕ) (nu
 
   module _ (new : Node) (j now : ℕ) (user : List ℕ) (all : MovesAmong (λ t. is_aside t ≡ true) (lists_of site s))
       (o : Opens j user now old new) (none : attached_at old j ≡ None) where
-    came : (x : Connection) (seats : List ℕ → Option ℕ) → x.node ≡ n → x.attached ≡ true → x.session ≡ opens
+    came : (x : Connection) (connection_of : List ℕ → Option ℕ) → x.node ≡ n → x.attached ≡ true → x.session ≡ opens
         → IsHubOf is_aside site (record s {
           connections = at_number s.connections s.count x;
           count = s.count + 1;
-          seats = seats;
+          connection_of = connection_of;
         }) n (at_number numbers j (Some s.count)) new
-    came x seats node attached session = record {
+    came x connection_of node attached session = record {
       each = λ i. elim (number_tells i j) [
         | inl e ↦
             subst (λ z. ConnectedBy is_aside site t n (attached_at new z) (at_number numbers j (Some s.count) z))
@@ -256,7 +256,11 @@ module _ (is_aside : List ℕ → Bool) (site : Site) (s : Server) (n : ℕ) (nu
     }
       where
         t : Server
-        t = record s { connections = at_number s.connections s.count x; count = s.count + 1; seats = seats }
+        t = record s {
+          connections = at_number s.connections s.count x;
+          count = s.count + 1;
+          connection_of = connection_of;
+        }
 
         here : at_number s.connections s.count x s.count ≡ x
         here = at-same s.connections s.count x
@@ -278,19 +282,20 @@ module _ (is_aside : List ℕ → Bool) (site : Site) (s : Server) (n : ℕ) (nu
     if_so : {X : Type 0} (b : Bool) (u v : X) → b ≡ true → (if b then u else v) ≡ u
     if_so b u v e = rw e refl
 
-    pub attaches : (x : List ℕ) → s.seats x ≡ None → nat_lt n site.config.nodes ≡ true
+    pub attaches : (x : List ℕ) → s.connection_of x ≡ None → nat_lt n site.config.nodes ≡ true
         → IsHubOf is_aside site (server_after site (Attaches x n) s) n (at_number numbers j (Some s.count)) new
-    attaches x seat there =
+    attaches x its_connection there =
         subst (λ (v : Server). IsHubOf is_aside site v n (at_number numbers j (Some s.count)) new)
-        (sym (ap (λ z. server.comes_to site x n z s) seat ∙ if_so (nat_lt n site.config.nodes) _ s there))
-        (came (record nowhere { client = x; node = n; attached = true }) (with s.seats x (Some s.count)) refl refl refl)
+        (sym (ap (λ z. server.comes_to site x n z s) its_connection ∙ if_so (nat_lt n site.config.nodes) _ s there))
+        (came (record nowhere { client = x; node = n; attached = true }) (with s.connection_of x (Some s.count)) refl
+        refl refl)
 
     pub wanders : nat_lt n site.config.nodes ≡ true
         → IsHubOf is_aside site (server_after site (Wanders n) s) n (at_number numbers j (Some s.count)) new
     wanders there =
         subst (λ (v : Server). IsHubOf is_aside site v n (at_number numbers j (Some s.count)) new)
         (sym (if_so (nat_lt n site.config.nodes) _ s there))
-        (came (record nowhere { node = n; attached = true }) s.seats refl refl refl)
+        (came (record nowhere { node = n; attached = true }) s.connection_of refl refl refl)
 
   -- ---- one goes
 

@@ -34,7 +34,7 @@ pub fn hubs_stay_beside_their_nodes()
     ensures attaches { (is_aside : List ℕ → Bool) (site : Site) (server : Server) (n j now : ℕ)
         (numbers : ℕ → Option ℕ) (old new : Node) (user client : List ℕ)
         → IsHubOf is_aside site server n numbers old → Opens j user now old new
-        → attached_at old j ≡ None → server.seats client ≡ None
+        → attached_at old j ≡ None → server.connection_of client ≡ None
         → nat_lt n site.config.nodes ≡ true
         → IsHubOf is_aside site (server_after site (Attaches client n) server) n
         (at_number numbers j (Some server.count)) new }

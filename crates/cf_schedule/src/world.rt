@@ -2,7 +2,7 @@
 ghost use Rattle.std.specs.Prelude.{◌≡◌, ◌≢◌, ◌+◌, ℕ, List, IfOk, IsErr, IsTrue, OnOk, false, is_err, option_copied};
 ghost use Rattle.cf_machine.specs.World.{start};
 ghost use Rattle.cf_schedule.specs.Seen.{seen, shown_config};
-ghost use Rattle.cf_world.specs.Tie.{GoesOn, Tied, Writes, client_of, hub_of, seat_at, streams_of};
+ghost use Rattle.cf_world.specs.Tie.{GoesOn, Tied, Writes, client_of, hub_of, address_at, streams_of};
 
 use crate::config::Config;
 use crate::event::Event;
@@ -104,10 +104,10 @@ impl<'a> World<'a> {
     }
 
     /// Where the session of a client is, if it is connected.
-    pub fn seat(&self, name: &str) -> Option<SessionAddress>
-        ensures { result ≡ seat_at self.now.parts name.now }
+    pub fn address(&self, name: &str) -> Option<SessionAddress>
+        ensures { result ≡ address_at self.now.parts name.now }
     {
-        self.parts.seat(name)
+        self.parts.address(name)
     }
 }
 

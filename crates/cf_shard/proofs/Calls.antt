@@ -173,15 +173,15 @@ one_by_log t w k o c x seen after h begins log = record {
 }
 
 -- a channel without a stream has no entry, and stays without one
-pub none_noted : (k : StreamMap) (c : List ℕ) (x : Entry) (log after : List Entry) → stream_of k c ≡ None → after ≡ log
+pub none_logged : (k : StreamMap) (c : List ℕ) (x : Entry) (log after : List Entry) → stream_of k c ≡ None → after ≡ log
     → after ≡ log ++ if_stands (stream_of k c) x
-none_noted k c x log after none is =
+none_logged k c x log after none is =
     is ∙ (sym (append-nil log) ∙ ap (λ (o : Option Shown). log ++ if_stands o x) (sym none))
 
 -- the owner after a call's entries
-pub noted : (o o1 o2 : OwnerState) (es es' : List Entry) → o1 ≡ o → o2 ≡ record o1 { log = o1.log ++ es } → es ≡ es'
+pub logged : (o o1 o2 : OwnerState) (es es' : List Entry) → o1 ≡ o → o2 ≡ record o1 { log = o1.log ++ es } → es ≡ es'
     → (o2.word ≡ o.word) × (o2.log ≡ o.log ++ es')
-noted o o1 o2 es es' at is same = (
+logged o o1 o2 es es' at is same = (
   ap (λ (x : OwnerState). x.word) is ∙ ap (λ (x : OwnerState). x.word) at,
   ap (λ (x : OwnerState). x.log) is ∙ (λ i. (at i).log ++ same i),
 )
@@ -258,7 +258,7 @@ is_fresh k c key p is new =
 
 -- the owner after a publish that repeats nothing, whose entries were made by what was asked of the streams, and under a
 -- copy of its key
-pub publish_noted : (k : StreamMap) (o o1 o2 : OwnerState) (c lent key : List ℕ) (d : Datum)
+pub publish_logged : (k : StreamMap) (o o1 o2 : OwnerState) (c lent key : List ℕ) (d : Datum)
     (position : Option Position) (stood : Option ℕ) (p : Published) → o1 ≡ o
     → (p.repeated ≡ false → o2 ≡ record o1 { log = o1.log ++ opening stood c p.position.epoch (Publish c lent d ∷ []) })
     → position ≡ option_map position_of (stream_of k c)
@@ -266,7 +266,7 @@ pub publish_noted : (k : StreamMap) (o o1 o2 : OwnerState) (c lent key : List �
     → p ≡ answer_to (stood_or_opened k c p.position.epoch) key → repeat_at (stream_of k c) key ≡ None → lent ≡ key
     → (p.repeated ≡ false) × (o2.word ≡ o.word) × (o2.log ≡ o.log
     ++ publishing p.repeated (stream_of k c) c p.position.epoch key d)
-publish_noted k o o1 o2 c lent key d position stood p at made from is answer new same =
+publish_logged k o o1 o2 c lent key d position stood p at made from is answer new same =
     let fresh : p.repeated ≡ false = is_fresh k c key p answer new in
     let es : List Entry = opening (stream_of k c) c p.position.epoch (Publish c key d ∷ []) in
     let entries : opening stood c p.position.epoch (Publish c lent d ∷ [])
@@ -274,7 +274,7 @@ publish_noted k o o1 o2 c lent key d position stood p at made from is answer new
     ap (λ x. opening stood c p.position.epoch (Publish c x d ∷ [])) same
     ∙ (opening_stood k c position stood p.position.epoch (Publish c key d ∷ []) from is
     ∙ ap (λ b. cond b [] es) (sym fresh)) in
-    let owner = noted o o1 o2 _ _ at (made fresh) entries in
+    let owner = logged o o1 o2 _ _ at (made fresh) entries in
     (fresh, owner.0, owner.1)
 
 -- where a map is some
@@ -301,9 +301,9 @@ is_repeat k c key p is again =
     ∙ again_in (stream_of k c) p.position.epoch key (size_at k.namespaces c) again
 
 -- the owner after a repeat
-pub repeat_noted : (o o1 : OwnerState) (repeated : Bool) (es : List Entry) → o1 ≡ o → repeated ≡ true
+pub repeat_logged : (o o1 : OwnerState) (repeated : Bool) (es : List Entry) → o1 ≡ o → repeated ≡ true
     → (o1.word ≡ o.word) × (o1.log ≡ o.log ++ cond repeated [] es)
-repeat_noted o o1 repeated es at is = (
+repeat_logged o o1 repeated es at is = (
   ap (λ (x : OwnerState). x.word) at,
   ap (λ (x : OwnerState). x.log) at ∙ (sym (append-nil o.log) ∙ ap (λ b. o.log ++ cond b [] es) (sym is)),
 )

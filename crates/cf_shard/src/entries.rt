@@ -73,7 +73,7 @@ pub(crate) fn has_room_on(stood: Option<u64>, count: u64) -> bool
 }
 
 /// The entry of a call on a stream, if one stood. It is no publish.
-pub(crate) fn note_on(
+pub(crate) fn log_on(
     word: &ShardWord,
     owner: &mut Owner,
     pass: &mut Pass,
@@ -96,7 +96,7 @@ pub(crate) fn note_on(
 }
 
 /// The entry of a stream that opened, if none stood.
-pub(crate) fn note_opening(
+pub(crate) fn log_opening(
     word: &ShardWord,
     owner: &mut Owner,
     pass: &mut Pass,
@@ -120,7 +120,7 @@ pub(crate) fn note_opening(
 }
 
 /// The entries of an accepted publish: the stream's opening if none stood, and the newest publication that the channel holds.
-pub(crate) fn note_publish(
+pub(crate) fn log_publish(
     streams: &Streams,
     word: &ShardWord,
     owner: &mut Owner,
@@ -145,7 +145,7 @@ pub(crate) fn note_publish(
     ensures whole { HasWhole pass.new owner.new.log }
     ensures share { KeepsShare pass.old pass.new 1 }
 {
-    note_opening(word, owner, pass, stood, channel, position);
+    log_opening(word, owner, pass, stood, channel, position);
     let Some(newest) = streams.last(channel) else {
         unreachable!()
     };
@@ -174,7 +174,7 @@ pub(crate) fn fits(walk: DueWalk<'_>, room: u64) -> bool
 }
 
 /// The entries of all that is due.
-pub(crate) fn note_due(word: &ShardWord, owner: &mut Owner, pass: &mut Pass, walk: DueWalk<'_>)
+pub(crate) fn log_due(word: &ShardWord, owner: &mut Owner, pass: &mut Pass, walk: DueWalk<'_>)
     requires word { (owner.old.word ≡ word.now) × (pass.old.word ≡ word.now) }
     requires room { length owner.old.log + length walk ≤ 2 ^ 62 }
     requires whole { HasWhole pass.old owner.old.log }

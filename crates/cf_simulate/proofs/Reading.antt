@@ -21,7 +21,7 @@ use Rattle.cf_schedule.specs.ScheduleLine.{Says, IsPassedOver}
 use Rattle.cf_machine.specs.FreshEpochs.{AreDistinct}
 use Rattle.cf_schedule.specs.declared.event.Event as declared
 use Rattle.cf_simulate.specs.ScheduleText.{lines_of, Gives, events_of, epochs_by, epochs_of}
-use Rattle.cf_simulate.specs.ScheduleRead.{HasLines, IsLineOf, IsReadTo, NotesEpoch, RefusesLine, RefusesText, Epochs}
+use Rattle.cf_simulate.specs.ScheduleRead.{HasLines, IsLineOf, IsReadTo, KeepsEpoch, RefusesLine, RefusesText, Epochs}
 use Rattle.cf_simulate.specs.declared.error.SimulateError.{SimulateError}
 use Rattle.cf_simulate.specs.declared.error.SimulateError.TheVariants.{Unreadable, UsedTwice, NotUtf8, Memory}
 use Rattle.cf_simulate.specs.declared.error.SimulateError.TheVariants.{InputOutput}
@@ -91,21 +91,21 @@ epochs_some given e =
 abbrev Noted : List (List ℕ) → Epochs → List (List ℕ) → Type 0
 Noted xs new more = AreDistinct (xs ++ more) × ((q : List ℕ) → contains_text new q ≡ is_among q (xs ++ more))
 
-none_noted : (xs : List (List ℕ)) (old new : Epochs) → ((q : List ℕ) → contains_text old q ≡ is_among q xs)
+none_kept : (xs : List (List ℕ)) (old new : Epochs) → ((q : List ℕ) → contains_text old q ≡ is_among q xs)
     → AreDistinct xs
     → ((q : List ℕ) → contains_text new q ≡ contains_text old q) → Noted xs new []
-none_noted xs old new h d n =
+none_kept xs old new h d n =
     (subst AreDistinct (sym (append-nil xs)) d, λ q. n q ∙ h q ∙ ap (is_among q) (sym (append-nil xs)))
 
-noted : (xs : List (List ℕ)) (old new : Epochs) (event : Event) → ((q : List ℕ) → contains_text old q ≡ is_among q xs)
+kept : (xs : List (List ℕ)) (old new : Epochs) (event : Event) → ((q : List ℕ) → contains_text old q ≡ is_among q xs)
     → AreDistinct xs
-    → NotesEpoch old event new → Noted xs new (epochs_by event)
-noted xs old new (Epoch e) h d n = (
+    → KeepsEpoch old event new → Noted xs new (epochs_by event)
+kept xs old new (Epoch e) h d n = (
   distinct_more xs e d (sym (h e) ∙ n.0),
   λ q. n.1 q ∙ or_turns (bytes_eq e q) false (contains_text old q) (is_among q xs) (h q)
       ∙ sym (among_more q xs (e ∷ [])),
 )
-noted xs old new event h d n = none_noted xs old new h d n
+kept xs old new event h d n = none_kept xs old new h d n
 
 -- ---- lines that are read
 
@@ -128,10 +128,10 @@ one_passed nodes before line s p read = record {
 
 pub one_more : (nodes : ℕ) (before : List (List ℕ)) (line : List ℕ) (old new : Schedule) (event : declared.Event)
     → Says nodes line (seen event)
-    → NotesEpoch old.epochs (seen event) new.epochs → new.events.items ≡ old.events.items ++ event ∷ []
+    → KeepsEpoch old.epochs (seen event) new.epochs → new.events.items ≡ old.events.items ++ event ∷ []
     → IsReadTo nodes before old → IsReadTo nodes (before ++ line ∷ []) new
 one_more nodes before line old new event says notes items read =
-    let n = noted (epochs_of read.given) old.epochs new.epochs (seen event) read.epochs read.give.once notes in
+    let n = kept (epochs_of read.given) old.epochs new.epochs (seen event) read.epochs read.give.once notes in
     record {
       given = read.given ++ Some (seen event) ∷ [];
       give = record {

@@ -51,11 +51,11 @@ abbrev pub Epochs : Type 0
 Epochs = BTreeSet (String Global)
 
 -- the epoch that the event brings, if any, didn't come before and has come now
-abbrev pub NotesEpoch : Epochs → Event → Epochs → Type 0
-NotesEpoch old (Epoch e) new =
+abbrev pub KeepsEpoch : Epochs → Event → Epochs → Type 0
+KeepsEpoch old (Epoch e) new =
     (contains_text old e ≡ false)
     × ((q : List ℕ) → contains_text new q ≡ (bytes_eq e q || contains_text old q))
-NotesEpoch old event new = (q : List ℕ) → contains_text new q ≡ contains_text old q
+KeepsEpoch old event new = (q : List ℕ) → contains_text new q ≡ contains_text old q
 
 -- the epoch that the event brings came before
 abbrev pub RefusesEpoch : Epochs → Event → ℕ → SimulateError → Type 0

@@ -4,7 +4,7 @@ ghost use Rattle.cf_schedule.specs.ScheduleLine.{Says};
 ghost use Rattle.cf_schedule.specs.Seen.{seen};
 ghost use Rattle.cf_simulate.specs.ScheduleText.{lines_of, IsSchedule};
 ghost use Rattle.cf_simulate.specs.ScheduleRead.{HasLines, IsReadTo, RefusesLine, RefusesText};
-ghost use Rattle.cf_simulate.specs.ScheduleRead.{NotesEpoch, RefusesEpoch, line_at};
+ghost use Rattle.cf_simulate.specs.ScheduleRead.{KeepsEpoch, RefusesEpoch, line_at};
 
 use crate::error::SimulateError;
 use cf_schedule::{Event, EventFault};
@@ -98,10 +98,10 @@ impl<'a> Schedule<'a> {
             → Says nodes line.now (seen event) → (read : IsReadTo nodes before self.old)
             → RefusesLine nodes line.now number read.given f) }
     {
-        let noted = note_epoch(alloc, &mut self.epochs, &event, number);
+        let kept = keep_epoch(alloc, &mut self.epochs, &event, number);
         self.events.push(event)?;
         self.lines.push(Line { number, text: line })?;
-        noted
+        kept
     }
 
     /// The line of the event behind the first `done`.
@@ -123,14 +123,14 @@ fn lines_of(alloc: Global, text: &str) -> Result<Vec<&str>, AllocError>
     text.split('\n').collect(alloc)
 }
 
-// Notes the epoch that an event brings, and refuses it if an earlier event brought it.
-fn note_epoch(
+// Keeps the epoch that an event brings, and refuses it if an earlier event brought it.
+fn keep_epoch(
     alloc: Global,
     epochs: &mut BTreeSet<String>,
     event: &Event,
     line: usize,
 ) -> Result<(), SimulateError>
-    ensures ok { OnOk result (NotesEpoch epochs.old (seen event.now) epochs.new) }
+    ensures ok { OnOk result (KeepsEpoch epochs.old (seen event.now) epochs.new) }
     ensures err { IfErr result (RefusesEpoch epochs.old (seen event.now) line) }
 {
     let Event::Epoch { epoch } = event else {

@@ -71,18 +71,18 @@ word_at words x seen n so_far within is =
 
 -- ---- of those that are given, each could follow those before it
 
-at_place : {X : Type 0} (P : X → Type 0) (seen : List X) (x : X) (rest : List X) → All P (seen ++ x ∷ rest) → P x
-at_place P [] x rest h = All-head P x rest h
-at_place P (y ∷ seen) x rest h = at_place P seen x rest (All-tail P y (seen ++ x ∷ rest) h)
+at_element : {X : Type 0} (P : X → Type 0) (seen : List X) (x : X) (rest : List X) → All P (seen ++ x ∷ rest) → P x
+at_element P [] x rest h = All-head P x rest h
+at_element P (y ∷ seen) x rest h = at_element P seen x rest (All-tail P y (seen ++ x ∷ rest) h)
 
 apart_before : (seen : List (List ℕ)) (x : List ℕ) (rest : List (List ℕ)) → AllPairs ◌≢◌ (seen ++ x ∷ rest)
     → All (λ d. d ≢ x) seen
 apart_before [] x rest h = All-nil (λ d. d ≢ x)
 apart_before (y ∷ seen) x rest h =
     All-cons (λ d. d ≢ x) y seen
-    (at_place (λ j. y ≢ j) seen x rest (λ i d l. h 0 (suc i) d (omega arith) (omega arith)))
+    (at_element (λ j. y ≢ j) seen x rest (λ i d l. h 0 (suc i) d (omega arith) (omega arith)))
     (apart_before seen x rest (λ i j d l m. h (suc i) (suc j) d (omega arith) (omega arith)))
 
 pub follows_at : (seen : List (List ℕ)) (x : List ℕ) (rest : List (List ℕ)) → AreGiven (seen ++ x ∷ rest)
     → CanFollow seen x
-follows_at seen x rest h = (at_place IsGiven seen x rest h.each, apart_before seen x rest h.apart)
+follows_at seen x rest h = (at_element IsGiven seen x rest h.each, apart_before seen x rest h.apart)

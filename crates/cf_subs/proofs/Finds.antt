@@ -16,9 +16,9 @@ use Rattle.cf_subs.specs.Held.{Held, places, found, without}
 use Rattle.cf_subs.specs.Rows.{AreOnce, after_in, channels_of, follows, is_among, is_of, sessions_of, without_row}
 use Rattle.cf_subs.specs.Rows.{without_session}
 use Rattle.cf_subs.specs.Threads.{at, first_of}
-use Rattle.cf_subs.specs.Seats.{AreLinkedByChannel, AreLinkedBySession, IsChannelWalk, IsSessionWalk, StandsIn}
-use Rattle.cf_subs.specs.Seats.{channel_of, channels_onward, of_number, onward, place_of, rows_of, session_of}
-use Rattle.cf_subs.specs.Seats.{sessions_onward}
+use Rattle.cf_subs.specs.RowBlocks.{AreLinkedByChannel, AreLinkedBySession, IsChannelWalk, IsSessionWalk, StandsIn}
+use Rattle.cf_subs.specs.RowBlocks.{channel_of, channels_onward, of_number, onward, place_of, rows_of, session_of}
+use Rattle.cf_subs.specs.RowBlocks.{sessions_onward}
 use Rattle.cf_subs.proofs.Members.{among_sessions}
 use Rattle.cf_subs.proofs.Places.{cut_at, without_cut}
 use Rattle.cf_subs.proofs.Threads.{some_eq, same_number, same_refl}

@@ -10,7 +10,7 @@ use Rattle.cf_subs.specs.declared.blocks.At.{At}
 use Rattle.cf_subs.specs.declared.ends.ListEnds.{ListEnds}
 use Rattle.cf_subs.specs.Ends.{EndsMap, IsHeaded, SetsAt, ends, ends_of, grown, shrunk}
 use Rattle.cf_subs.specs.Held.{Held, found, places, without}
-use Rattle.cf_subs.specs.Threads.{AreThreaded, at, first_of, last_of, noted, nowhere}
+use Rattle.cf_subs.specs.Threads.{AreThreaded, at, first_of, last_of, latest, nowhere}
 use Rattle.cf_subs.proofs.Places.{cut_at, without_cut}
 use Rattle.cf_subs.proofs.Threads.{same_number, same_refl, th_right, some_eq}
 
@@ -89,8 +89,8 @@ module _ {X : Type 0} (key : X → ℕ) where
       by_value true h = refl
       by_value false h = h
 
-  noted_or : (k : ℕ) (f : ℕ → Option At) (h : Held X) → noted key f h k ≡ or (noted key nowhere h k) (f k)
-  noted_or k f h = by_value (key h.value == k)
+  latest_or : (k : ℕ) (f : ℕ → Option At) (h : Held X) → latest key f h k ≡ or (latest key nowhere h k) (f k)
+  latest_or k f h = by_value (key h.value == k)
     where
       by_value : (t : Bool) → cond t (Some (at h.at)) (f k) ≡ or (cond t (Some (at h.at)) None) (f k)
       by_value true = refl
@@ -99,14 +99,14 @@ module _ {X : Type 0} (key : X → ℕ) where
   last_or : (k : ℕ) (f : ℕ → Option At) (hs : List (Held X)) → last_of key f hs k ≡ or (last_of key nowhere hs k) (f k)
   last_or k f [] = refl
   last_or k f (h ∷ hs) =
-      last_or k (noted key f h) hs ∙ ap (or (last_of key nowhere hs k)) (noted_or k f h)
-      ∙ sym (or_assoc (last_of key nowhere hs k) (noted key nowhere h k) (f k))
-      ∙ ap (λ o. or o (f k)) (sym (last_or k (noted key nowhere h) hs))
+      last_or k (latest key f h) hs ∙ ap (or (last_of key nowhere hs k)) (latest_or k f h)
+      ∙ sym (or_assoc (last_of key nowhere hs k) (latest key nowhere h k) (f k))
+      ∙ ap (λ o. or o (f k)) (sym (last_or k (latest key nowhere h) hs))
 
   last_after : (k : ℕ) (f : ℕ → Option At) (xs ys : List (Held X))
       → last_of key f (xs ++ ys) k ≡ last_of key (last_of key f xs) ys k
   last_after k f [] ys = refl
-  last_after k f (x ∷ xs) ys = last_after k (noted key f x) xs ys
+  last_after k f (x ∷ xs) ys = last_after k (latest key f x) xs ys
 
   last_append : (k : ℕ) (xs ys : List (Held X))
       → last_of key nowhere (xs ++ ys) k ≡ or (last_of key nowhere ys k) (last_of key nowhere xs k)
@@ -116,7 +116,7 @@ module _ {X : Type 0} (key : X → ℕ) where
   pub both_ends : (k : ℕ) (hs : List (Held X)) → is_some (first_of key k hs) ≡ is_some (last_of key nowhere hs k)
   both_ends k [] = refl
   both_ends k (h ∷ hs) =
-      by_value (key h.value == k) (both_ends k hs) ∙ ap is_some (sym (last_or k (noted key nowhere h) hs))
+      by_value (key h.value == k) (both_ends k hs) ∙ ap is_some (sym (last_or k (latest key nowhere h) hs))
     where
       by_value : (t : Bool) → is_some (first_of key k hs) ≡ is_some (last_of key nowhere hs k)
           → is_some (cond t (Some (at h.at)) (first_of key k hs))
@@ -217,11 +217,11 @@ module _ {X : Type 0} (key : X → ℕ) where
                 ∙ ap (λ c. shrunk (get nat_eq m k) (last_of key nowhere xs c) (first_of key c ys)) j
                 ∙ ap (λ e. shrunk e (L xs) (F ys)) (had ∙ (λ i. ends
                 ((first_append k xs (n ∷ ys) ∙ ap (λ t. or (F xs) (cond t (Some (at n.at)) (F ys))) is) i)
-                ((last_after k nowhere xs (n ∷ ys) ∙ last_or k (noted key (last_of key nowhere xs) n) ys
+                ((last_after k nowhere xs (n ∷ ys) ∙ last_or k (latest key (last_of key nowhere xs) n) ys
                 ∙ ap (λ t. or (L ys) (cond t (Some (at n.at)) (L xs))) is) i)))
                 ∙ sym (one_goes (F xs) (L xs) (F ys) (L ys) (at n.at) (both_ends k xs) (both_ends k ys)) ∙ sym joined
             by_value false is =
                 had ∙ (λ i. ends ((first_append k xs (n ∷ ys) ∙ ap (λ t. or (F xs) (cond t (Some (at n.at)) (F ys))) is)
                 i)
-                ((last_after k nowhere xs (n ∷ ys) ∙ last_or k (noted key (last_of key nowhere xs) n) ys
+                ((last_after k nowhere xs (n ∷ ys) ∙ last_or k (latest key (last_of key nowhere xs) n) ys
                 ∙ ap (λ t. or (L ys) (cond t (Some (at n.at)) (L xs))) is) i)) ∙ sym joined

@@ -9,8 +9,8 @@ use Rattle.cf_subs.specs.declared.blocks.At.{At}
 use Rattle.cf_subs.specs.declared.linked_row.LinkedRow.{LinkedRow}
 use Rattle.cf_subs.specs.Held.{Held, places, found, without}
 use Rattle.cf_subs.specs.Threads.{at, leads_to, nowhere, IsHeld, changed, first_of, last_of, AreThreaded}
-use Rattle.cf_subs.specs.Seats.{AreLinked, before_in_channel, after_in_channel, before_in_session, after_in_session}
-use Rattle.cf_subs.specs.Seats.{channel_of, session_of, rows_of, SameEnds}
+use Rattle.cf_subs.specs.RowBlocks.{AreLinked, before_in_channel, after_in_channel, before_in_session, after_in_session}
+use Rattle.cf_subs.specs.RowBlocks.{channel_of, session_of, rows_of, SameEnds}
 use Rattle.cf_subs.proofs.Threads.{changed_append, changed_around, places_changed, right_fresh, apart_right, found_left}
 use Rattle.cf_subs.proofs.Threads.{found_right, held_changed, last_held, first_held, last_past, first_past, th_right}
 use Rattle.cf_subs.proofs.Threads.{th_kept, linked_in, unlinked, last_changed, first_changed, some_eq}

@@ -9,7 +9,7 @@ use Rattle.lru.proofs.Apart.{IsFresh, same_ptr_refl, same_ptr_symm, same_ptr_eq}
 use Rattle.cf_subs.specs.declared.blocks.At.{At}
 use Rattle.std.specs.Prelude.{IsSome}
 use Rattle.cf_subs.specs.Held.{Held, held, places, found, put_at}
-use Rattle.cf_subs.specs.Threads.{at, leads_to, nowhere, IsHeld, changed, first_of, noted, last_of, AreThreaded}
+use Rattle.cf_subs.specs.Threads.{at, leads_to, nowhere, IsHeld, changed, first_of, latest, last_of, AreThreaded}
 
 pub same_number : (m k : ℕ) → (m == k) ≡ true → m ≡ k
 same_number m k e = eqb→eq m k (subst T (sym e) tt)
@@ -42,26 +42,26 @@ module _ {X : Type 0} (key : X → ℕ) where
   abbrev pub AllPast : O → List H → Type 0
   AllPast o = AllByRecursion (λ h. Past o h.at)
 
-  noted_at : (f : ℕ → O) (h : H) (k : ℕ) → (key h.value == k) ≡ true → noted key f h k ≡ Some (at h.at)
-  noted_at f h k e = ap (λ y. cond y (Some (at h.at)) (f k)) e
+  latest_at : (f : ℕ → O) (h : H) (k : ℕ) → (key h.value == k) ≡ true → latest key f h k ≡ Some (at h.at)
+  latest_at f h k e = ap (λ y. cond y (Some (at h.at)) (f k)) e
 
-  noted_else : (f : ℕ → O) (h : H) (k : ℕ) → (key h.value == k) ≡ false → noted key f h k ≡ f k
-  noted_else f h k e = ap (λ y. cond y (Some (at h.at)) (f k)) e
+  latest_else : (f : ℕ → O) (h : H) (k : ℕ) → (key h.value == k) ≡ false → latest key f h k ≡ f k
+  latest_else f h k e = ap (λ y. cond y (Some (at h.at)) (f k)) e
 
   pub last_past : (k : ℕ) (f : ℕ → O) (p : Ptr) (hs : List H) → IsFresh p (places hs) → Past (f k) p
       → Past (last_of key f hs k) p
   last_past k f p [] d e = e
   last_past k f p (h ∷ hs) d e =
-      last_past k (noted key f h) p hs d.1 ((elim (key h.value == k) as (λ y. Past (cond y (Some (at h.at)) (f k)) p)
+      last_past k (latest key f h) p hs d.1 ((elim (key h.value == k) as (λ y. Past (cond y (Some (at h.at)) (f k)) p)
       [ true ↦ d.0 | false ↦ e ]))
 
   last_none : (k : ℕ) (f : ℕ → O) (hs : List H) → first_of key k hs ≡ None → last_of key f hs k ≡ f k
   last_none k f [] e = refl
   last_none k f (h ∷ hs) e =
       (elim (key h.value == k) as (λ y. (key h.value == k) ≡ y → cond y (Some (at h.at)) (first_of key k hs) ≡ None
-      → last_of key (noted key f h) hs k ≡ f k) [
+      → last_of key (latest key f h) hs k ≡ f k) [
         | true ↦ λ _ bad. cc
-        | false ↦ λ is e'. last_none k (noted key f h) hs e' ∙ noted_else f h k is
+        | false ↦ λ is e'. last_none k (latest key f h) hs e' ∙ latest_else f h k is
       ]) refl e
 
   last_some : (k : ℕ) (f : ℕ → O) (p : Ptr) (a : At) (hs : List H) → first_of key k hs ≡ Some a → IsFresh p (places hs)
@@ -69,9 +69,9 @@ module _ {X : Type 0} (key : X → ℕ) where
   last_some k f p a [] e d = cc
   last_some k f p a (h ∷ hs) e d =
       (elim (key h.value == k) as (λ y. (key h.value == k) ≡ y → cond y (Some (at h.at)) (first_of key k hs) ≡ Some a
-      → Past (last_of key (noted key f h) hs k) p) [
-        | true ↦ λ is _. last_past k (noted key f h) p hs d.1 (ap (λ o. leads_to o p) (noted_at f h k is) ∙ d.0)
-        | false ↦ λ is e'. last_some k (noted key f h) p a hs e' d.1
+      → Past (last_of key (latest key f h) hs k) p) [
+        | true ↦ λ is _. last_past k (latest key f h) p hs d.1 (ap (λ o. leads_to o p) (latest_at f h k is) ∙ d.0)
+        | false ↦ λ is e'. last_some k (latest key f h) p a hs e' d.1
       ]) refl e
 
   pub first_past : (k : ℕ) (p : Ptr) (hs : List H) → IsFresh p (places hs) → Past (first_of key k hs) p
@@ -103,13 +103,13 @@ module _ {X : Type 0} (key : X → ℕ) where
   first_same k [] r s e = e
   first_same k (h ∷ hs) r s e = ap (λ o. cond (key h.value == k) (Some (at h.at)) o) (first_same k hs r s e)
 
-  noted_out : (k : ℕ) (f : ℕ → O) (h : H) (us : List H) → AllPast (f k) us → IsFresh h.at (places us)
-      → AllPast (noted key f h k) us
-  noted_out k f h [] o g = tt
-  noted_out k f h (u ∷ us) o g = (
+  latest_out : (k : ℕ) (f : ℕ → O) (h : H) (us : List H) → AllPast (f k) us → IsFresh h.at (places us)
+      → AllPast (latest key f h k) us
+  latest_out k f h [] o g = tt
+  latest_out k f h (u ∷ us) o g = (
     (elim (key h.value == k) as (λ y. Past (cond y (Some (at h.at)) (f k)) u.at)
         [ true ↦ same_ptr_symm u.at h.at ∙ g.0 | false ↦ o.0 ]),
-    noted_out k f h us o.1 g.1,
+    latest_out k f h us o.1 g.1,
   )
 
   module _ (change : X → X) (keeps : (x : X) → key (change x) ≡ key x) where
@@ -146,13 +146,13 @@ module _ {X : Type 0} (key : X → ℕ) where
     th_same f g e (h ∷ hs) t = (
       t.0 ∙ e (key h.value),
       t.1,
-      th_same (noted key f h) (noted key g h)
+      th_same (latest key f h) (latest key g h)
           (λ k. ap (λ o. cond (key h.value == k) (Some (at h.at)) o) (e k)) hs t.2,
     )
 
     pub th_right : (f : ℕ → O) (hs r : List H) → Th f (hs ++ r) → Th (last_of key f hs) r
     th_right f [] r t = t
-    th_right f (h ∷ hs) r t = th_right (noted key f h) hs r t.2
+    th_right f (h ∷ hs) r t = th_right (latest key f h) hs r t.2
 
     -- what comes after the blocks hs is r in the place of s: the last of the number k leads to a
     module _ (change : X → X) (a : O) (keeps : (x : X) → key (change x) ≡ key x)
@@ -165,27 +165,28 @@ module _ {X : Type 0} (key : X → ℕ) where
 
       head_after : (f : ℕ → O) (h : H) (hs : List H) → Past (f k) h.at → IsFresh h.at (places hs)
           → after h.value ≡ first_of key (key h.value) (hs ++ s)
-          → after (cond (leads_to (last_of key (noted key f h) hs k) h.at) (change h.value) h.value)
+          → after (cond (leads_to (last_of key (latest key f h) hs k) h.at) (change h.value) h.value)
           ≡ first_of key (key h.value) (hs ++ r)
       head_after f h hs out fresh is =
-          let B : O = last_of key (noted key f h) hs k in
+          let B : O = last_of key (latest key f h) hs k in
           (elim (key h.value == k) as (λ y. (key h.value == k) ≡ y
           → after (cond (leads_to B h.at) (change h.value) h.value) ≡ first_of key (key h.value) (hs ++ r)) [
             | true ↦ λ e. let m = same_number (key h.value) k e in
                 (elim (first_of key k hs) as (λ o. first_of key k hs ≡ o
                 → after (cond (leads_to B h.at) (change h.value) h.value) ≡ first_of key (key h.value) (hs ++ r)) [
                   | None ↦ λ none. let at_h : B ≡ Some (at h.at) =
-                      last_none k (noted key f h) hs none ∙ noted_at f h k e in
+                      last_none k (latest key f h) hs none ∙ latest_at f h k e in
                       ap (λ y. after (cond y (change h.value) h.value))
                       (ap (λ o. leads_to o h.at) at_h ∙ same_ptr_refl h.at) ∙ sets h.value ∙ is_first
                       ∙ sym (first_none k hs r none) ∙ ap (λ c. first_of key c (hs ++ r)) (sym m)
                   | Some q ↦ λ some. ap (λ y. after (cond y (change h.value) h.value))
-                      (last_some k (noted key f h) h.at q hs some fresh) ∙ is ∙ ap (λ c. first_of key c (hs ++ s)) m
+                      (last_some k (latest key f h) h.at q hs some fresh) ∙ is ∙ ap (λ c. first_of key c (hs ++ s)) m
                       ∙ first_some k q hs s some ∙ sym (first_some k q hs r some)
                       ∙ ap (λ c. first_of key c (hs ++ r)) (sym m)
                 ]) refl
             | false ↦ λ e. ap (λ y. after (cond y (change h.value) h.value))
-                (last_past k (noted key f h) h.at hs fresh (ap (λ o. leads_to o h.at) (noted_else f h k e) ∙ out)) ∙ is
+                (last_past k (latest key f h) h.at hs fresh (ap (λ o. leads_to o h.at) (latest_else f h k e) ∙ out))
+                ∙ is
                 ∙ first_same (key h.value) hs s r (others (key h.value) e)
           ]) refl
 
@@ -194,14 +195,14 @@ module _ {X : Type 0} (key : X → ℕ) where
       unfolding IsDistinct
       th_left f [] out d t u = u
       th_left f (h ∷ hs) out d t u =
-          let B : O = last_of key (noted key f h) hs k in let y : Bool = leads_to B h.at in let h' : H =
+          let B : O = last_of key (latest key f h) hs k in let y : Bool = leads_to B h.at in let h' : H =
           held h.at (cond y (change h.value) h.value) in
           let same : key h'.value ≡ key h.value = key_changed change keeps y h.value in (
             before_changed y h.value ∙ t.0 ∙ ap f (sym same),
             head_after f h hs out.0 d.0 t.1 ∙ ap (λ c. first_of key c (hs ++ r)) (sym same)
                 ∙ sym (first_changed_append change keeps (key h'.value) B hs r),
-            th_same (noted key f h) (noted key f h') (λ c. ap (λ m. cond (m == c) (Some (at h.at)) (f c)) (sym same))
-                (changed change B hs ++ r) (th_left (noted key f h) hs (noted_out k f h hs out.1 d.0) d.1 t.2 u),
+            th_same (latest key f h) (latest key f h') (λ c. ap (λ m. cond (m == c) (Some (at h.at)) (f c)) (sym same))
+                (changed change B hs ++ r) (th_left (latest key f h) hs (latest_out k f h hs out.1 d.0) d.1 t.2 u),
           )
 
     -- the first block of the number k, of which another one lay before, leads to b
@@ -223,7 +224,7 @@ module _ {X : Type 0} (key : X → ℕ) where
                       ∙ ap f (sym m ∙ sym same),
                   ap (λ y. after (cond y (change h.value) h.value)) turned ∙ still h.value ∙ t.1
                       ∙ ap (λ c. first_of key c hs) (sym same) ∙ ap (λ l. first_of key (key h'.value) l) (sym rest),
-                  subst (Th (noted key f h')) (sym rest) (th_same (noted key g h) (noted key f h')
+                  subst (Th (latest key f h')) (sym rest) (th_same (latest key g h) (latest key f h')
                       (λ c. (elim (key h.value == c) as (λ y. (key h.value == c) ≡ y
                       → cond y (Some (at h.at)) (g c) ≡ cond y (Some (at h.at)) (f c)) [
                         | true ↦ λ _. refl
@@ -237,7 +238,7 @@ module _ {X : Type 0} (key : X → ℕ) where
                 subst (λ u. Th f (u ∷ changed change B hs)) (sym same) (
                   t.0 ∙ e (key h.value) (other_way (key h.value) k other),
                   t.1 ∙ sym (first_changed change keeps (key h.value) B hs),
-                  th_first (noted key f h) (noted key g h) hs (is ∙ sym (noted_else f h k other))
+                  th_first (latest key f h) (latest key g h) hs (is ∙ sym (latest_else f h k other))
                       (λ c not_c. ap (λ o. cond (key h.value == c) (Some (at h.at)) o) (e c not_c)) d.1 t.2,
                 )
           ]) refl
@@ -374,7 +375,7 @@ module _ {X : Type 0} where
         → AllByRecursion (λ (u : Held X). IsSome (found ws u.at)) hs → IsHeld ws (last_of key f hs k)
     last_held f [] e d = e
     last_held f (h ∷ hs) e d =
-        last_held (noted key f h) hs ((elim (key h.value == k) as (λ y. IsHeld ws (cond y (Some (at h.at)) (f k)))
+        last_held (latest key f h) hs ((elim (key h.value == k) as (λ y. IsHeld ws (cond y (Some (at h.at)) (f k)))
         [ true ↦ d.0 | false ↦ e ])) d.1
 
     pub first_held : (hs : List (Held X)) → AllByRecursion (λ (u : Held X). IsSome (found ws u.at)) hs
@@ -397,7 +398,7 @@ module _ {X : Type 0} where
           either before B y h.value ∙ t.0 ∙ ap f (sym same),
           either after A y h.value ∙ t.1 ∙ ap (λ c. first_of key c hs) (sym same)
               ∙ sym (first_changed key change K (key h'.value) o hs),
-          th_kept change o K B A (noted key f h') hs (th_same key before after (noted key f h) (noted key f h')
+          th_kept change o K B A (latest key f h') hs (th_same key before after (latest key f h) (latest key f h')
               (λ c. ap (λ m. cond (m == c) (Some (at h.at)) (f c)) (sym same)) hs t.2),
         )
       where
@@ -458,10 +459,10 @@ module _ {X : Type 0} where
           let joined =
           th_left key before after ca A ka ba sa k rest (n ∷ ys)
           (first_is ∙ sym (first_changed key cb kb k (first_of key k ys) ys))
-          (λ c other. noted_first c other ys ∙ sym (first_changed key cb kb c (first_of key k ys) ys)) nowhere xs
+          (λ c other. latest_first c other ys ∙ sym (first_changed key cb kb c (first_of key k ys) ys)) nowhere xs
           (past_nowhere xs) (apart_left xs (n ∷ ys) d) t
-          (th_first key before after cb B kb ab sb k f (noted key f n) ys last_is
-          (λ c not_c. noted_else key f n c not_c) both.1 mid.2) in
+          (th_first key before after cb B kb ab sb k f (latest key f n) ys last_is
+          (λ c not_c. latest_else key f n c not_c) both.1 mid.2) in
           let ys_past = past_right k xs ys (right_fresh xs (n ∷ ys) d).1 in
           let xs_past = past_left k xs ys (left_of xs (left_fresh xs (n ∷ ys) d)) in
           let step1 : changed ca B (xs ++ ys) ≡ changed ca (last_of key nowhere xs k) xs ++ ys =
@@ -475,9 +476,9 @@ module _ {X : Type 0} where
           (past_changed (first_of key k ys) (last_of key nowhere xs k) xs xs_past)) in
           subst (AreThreaded key before after nowhere) (sym step2) joined
         where
-          noted_first : (c : ℕ) → (c == key n.value) ≡ false → (ys : List (Held X))
+          latest_first : (c : ℕ) → (c == key n.value) ≡ false → (ys : List (Held X))
               → first_of key c (n ∷ ys) ≡ first_of key c ys
-          noted_first c other ys =
+          latest_first c other ys =
               ap (λ y. cond y (Some (at n.at)) (first_of key c ys)) (other_way c (key n.value) other)
 
           left_of : (us : List (Held X)) → AllByRecursion (λ (x : Held X). IsFresh x.at (places (n ∷ ys))) us
@@ -491,5 +492,5 @@ module _ {X : Type 0} where
     last_changed k o f g [] e = e k
     last_changed k o f g (h ∷ hs) e =
         let h' : Held X = held h.at (cond (leads_to o h.at) (change h.value) h.value) in
-        last_changed k o (noted key f h') (noted key g h) hs
+        last_changed k o (latest key f h') (latest key g h) hs
         (λ c i. cond (key_changed key change keeps (leads_to o h.at) h.value i == c) (Some (at h.at)) (e c i))

@@ -11,7 +11,7 @@ use Rattle.cf_subs.specs.declared.blocks.At.{At}
 use Rattle.cf_subs.specs.declared.linked_row.LinkedRow.{LinkedRow}
 use Rattle.cf_subs.specs.Held.{Held, held, places, found}
 use Rattle.cf_subs.specs.Threads.{AreThreaded, at, leads_to, nowhere, first_of}
-use Rattle.cf_subs.specs.Seats.{StandsIn, of_number, onward}
+use Rattle.cf_subs.specs.RowBlocks.{StandsIn, of_number, onward}
 use Rattle.cf_subs.proofs.Places.{cut_at}
 use Rattle.cf_subs.proofs.Threads.{first_past, th_right, apart_right, left_fresh, some_eq, same_refl, same_number}
 

@@ -36,13 +36,13 @@ module _ {T : Type 0} where
     first_of k [] = None
     first_of k (h ∷ hs) = cond (key h.value == k) (Some (at h.at)) (first_of k hs)
 
-    abbrev pub noted : (ℕ → Option At) → Held T → ℕ → Option At
-    noted f h k = cond (key h.value == k) (Some (at h.at)) (f k)
+    abbrev pub latest : (ℕ → Option At) → Held T → ℕ → Option At
+    latest f h k = cond (key h.value == k) (Some (at h.at)) (f k)
 
     -- the last block of each number, or what f has if there is none
     abbrev pub last_of : (ℕ → Option At) → List (Held T) → ℕ → Option At
     last_of f [] = f
-    last_of f (h ∷ hs) = last_of (noted f h) hs
+    last_of f (h ∷ hs) = last_of (latest f h) hs
 
     module _ (before after : T → Option At) where
       -- each block leads to the one before it and the one after it of its number
@@ -50,4 +50,4 @@ module _ {T : Type 0} where
       AreThreaded f [] = Unit {0}
       AreThreaded f (h ∷ hs) =
           (before h.value ≡ f (key h.value)) × (after h.value ≡ first_of (key h.value) hs)
-          × AreThreaded (noted f h) hs
+          × AreThreaded (latest f h) hs

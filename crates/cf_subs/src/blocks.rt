@@ -33,7 +33,7 @@ unsafe impl Sync for At {}
 
 /// The owner of the blocks. It takes no space: the pointers to them lie elsewhere.
 pub struct Blocks<T> {
-    mark: PhantomData<*mut T>,
+    marker: PhantomData<*mut T>,
     ghost held: { Seq (Held T) },
     ghost apart: { IsApart (places held) } by { prop_coded (IsApart-prop (places held)) },
 }
@@ -52,14 +52,16 @@ impl<T> Blocks<T> {
     pub(crate) fn new() -> Blocks<T>
         ensures { result.held ≡ [] }
     {
-        Blocks { mark: PhantomData }
+        Blocks {
+            marker: PhantomData,
+        }
     }
 
     /// Ends the owner, which has no block left.
     pub(crate) fn finish(self)
         requires { self.held ≡ [] }
     {
-        let Blocks { mark: _ } = self;
+        let Blocks { marker: _ } = self;
     }
 
     /// Takes a block in behind all others, and says where it lies.

@@ -2,7 +2,7 @@
 ghost use Rattle.std.specs.Prelude.{◌≡◌, ◌+◌, ◌≤◌, [], ◌∷◌, ◌++◌, length, IsSome, OnOk, OnErr, IsNone, IfSome};
 ghost use Rattle.cf_subs.specs.Held.{found, without};
 ghost use Rattle.cf_subs.specs.Rows.{most_rows, without_session};
-ghost use Rattle.cf_subs.specs.Seats.{IsUnlinked, channel_of, place_of, rows_of, session_of};
+ghost use Rattle.cf_subs.specs.RowBlocks.{IsUnlinked, channel_of, place_of, rows_of, session_of};
 ghost use Rattle.cf_subs.specs.Threads.{first_of};
 ghost use Rattle.cf_subs.specs.Whole.{IsWhole, blocks_of, rows_in};
 
@@ -17,7 +17,7 @@ use std::collections::HashMap;
 
 /// The rows' blocks, and where the list of each channel and of each session begins and ends.
 pub struct LinkedRows {
-    pub(crate) seats: RowBlocks,
+    pub(crate) row_blocks: RowBlocks,
     pub(crate) channels: EndsByNumber,
     pub(crate) sessions: EndsByNumber,
 }
@@ -29,7 +29,7 @@ impl LinkedRows {
         ensures rows { rows_in result ≡ [] }
     {
         LinkedRows {
-            seats: RowBlocks {
+            row_blocks: RowBlocks {
                 blocks: Blocks::new(),
             },
             channels: HashMap::new(alloc),
@@ -62,7 +62,7 @@ impl LinkedRows {
         self.channels.reserve(1)?;
         self.sessions.reserve(1)?;
         let block = Box::new(alloc, self.unlinked(row))?;
-        let at = self.seats.link(block);
+        let at = self.row_blocks.link(block);
         ends::grow(&mut self.channels, row.channel, at);
         ends::grow(&mut self.sessions, row.session, at);
         Ok(())
@@ -75,19 +75,19 @@ impl LinkedRows {
         ensures whole { IsWhole self.new }
         ensures rows { rows_in self.new ≡ rows_of (without (blocks_of self.old) at.ptr) }
     {
-        let seat = self.seats.unlink(at, alloc);
-        let row = seat.row;
+        let linked_row = self.row_blocks.unlink(at, alloc);
+        let row = linked_row.row;
         ends::shrink(
             &mut self.channels,
             row.channel,
-            seat.before_in_channel,
-            seat.after_in_channel,
+            linked_row.before_in_channel,
+            linked_row.after_in_channel,
         );
         ends::shrink(
             &mut self.sessions,
             row.session,
-            seat.before_in_session,
-            seat.after_in_session,
+            linked_row.before_in_session,
+            linked_row.after_in_session,
         );
     }
 
@@ -114,10 +114,10 @@ impl LinkedRows {
     {
         let mut next = self.first_in_session(session);
         while let Some(here) = next {
-            if self.seats.row(here).channel == channel {
+            if self.row_blocks.row(here).channel == channel {
                 return Some(here);
             }
-            next = self.seats.next_in_session(here);
+            next = self.row_blocks.next_in_session(here);
         }
         None
     }
@@ -159,7 +159,7 @@ impl LinkedRows {
             rows.unlink(here, alloc);
         }
         let LinkedRows {
-            seats: RowBlocks { blocks },
+            row_blocks: RowBlocks { blocks },
             channels,
             sessions,
         } = rows;

@@ -2,7 +2,7 @@
 ghost use Rattle.std.specs.Prelude.{◌≡◌, Some, IsSome};
 ghost use Rattle.cf_subs.specs.Held.{Tells, found, without};
 ghost use Rattle.cf_subs.specs.Threads.{Changes, IsHeld};
-ghost use Rattle.cf_subs.specs.Seats.{AreLinked, IsUnlinked, LinksIn, SameLists, before_in_channel, after_in_channel, before_in_session, after_in_session};
+ghost use Rattle.cf_subs.specs.RowBlocks.{AreLinked, IsUnlinked, LinksIn, SameLists, before_in_channel, after_in_channel, before_in_session, after_in_session};
 
 use crate::blocks::{At, Blocks};
 use crate::linked_row::LinkedRow;
@@ -45,9 +45,9 @@ impl RowBlocks {
         ensures { Changes (before_in_channel before) at self.old.blocks.held self.new.blocks.held }
     {
         if let Some(at) = at {
-            let mut seat = *self.blocks.get(at);
-            seat.before_in_channel = before;
-            self.blocks.put(at, seat);
+            let mut linked_row = *self.blocks.get(at);
+            linked_row.before_in_channel = before;
+            self.blocks.put(at, linked_row);
         }
     }
 
@@ -56,9 +56,9 @@ impl RowBlocks {
         ensures { Changes (after_in_channel after) at self.old.blocks.held self.new.blocks.held }
     {
         if let Some(at) = at {
-            let mut seat = *self.blocks.get(at);
-            seat.after_in_channel = after;
-            self.blocks.put(at, seat);
+            let mut linked_row = *self.blocks.get(at);
+            linked_row.after_in_channel = after;
+            self.blocks.put(at, linked_row);
         }
     }
 
@@ -67,9 +67,9 @@ impl RowBlocks {
         ensures { Changes (before_in_session before) at self.old.blocks.held self.new.blocks.held }
     {
         if let Some(at) = at {
-            let mut seat = *self.blocks.get(at);
-            seat.before_in_session = before;
-            self.blocks.put(at, seat);
+            let mut linked_row = *self.blocks.get(at);
+            linked_row.before_in_session = before;
+            self.blocks.put(at, linked_row);
         }
     }
 
@@ -78,9 +78,9 @@ impl RowBlocks {
         ensures { Changes (after_in_session after) at self.old.blocks.held self.new.blocks.held }
     {
         if let Some(at) = at {
-            let mut seat = *self.blocks.get(at);
-            seat.after_in_session = after;
-            self.blocks.put(at, seat);
+            let mut linked_row = *self.blocks.get(at);
+            linked_row.after_in_session = after;
+            self.blocks.put(at, linked_row);
         }
     }
 
@@ -106,14 +106,14 @@ impl RowBlocks {
         requires linked { AreLinked self.old.blocks.held }
         requires held { IsSome (found self.old.blocks.held at.ptr) }
         ensures linked { AreLinked self.new.blocks.held }
-        ensures seat { Some result ≡ found self.old.blocks.held at.ptr }
+        ensures linked_row { Some result ≡ found self.old.blocks.held at.ptr }
         ensures lists { SameLists self.new.blocks.held (without self.old.blocks.held at.ptr) }
     {
-        let seat = *self.blocks.release(at, alloc).into_box();
-        self.set_after_in_channel(seat.before_in_channel, seat.after_in_channel);
-        self.set_before_in_channel(seat.after_in_channel, seat.before_in_channel);
-        self.set_after_in_session(seat.before_in_session, seat.after_in_session);
-        self.set_before_in_session(seat.after_in_session, seat.before_in_session);
-        seat
+        let linked_row = *self.blocks.release(at, alloc).into_box();
+        self.set_after_in_channel(linked_row.before_in_channel, linked_row.after_in_channel);
+        self.set_before_in_channel(linked_row.after_in_channel, linked_row.before_in_channel);
+        self.set_after_in_session(linked_row.before_in_session, linked_row.after_in_session);
+        self.set_before_in_session(linked_row.after_in_session, linked_row.before_in_session);
+        linked_row
     }
 }

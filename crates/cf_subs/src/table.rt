@@ -40,10 +40,10 @@ impl Model for SubTable {
 
     ghost Value = { List Row };
 
-    ghost use Rattle.cf_subs.specs.Seats.{rows_of};
+    ghost use Rattle.cf_subs.specs.RowBlocks.{rows_of};
     ghost use Rattle.cf_subs.specs.Whole.{IsTable};
 
-    ghost view = { λ t. rows_of t.rows.seats.blocks.held };
+    ghost view = { λ t. rows_of t.rows.row_blocks.blocks.held };
 
     ghost invariant = { λ t. IsTable t.rows t.count };
 }
@@ -142,7 +142,7 @@ impl SubTable {
         ensures rows { AreRows self.now }
     {
         Walk {
-            seats: &self.rows.seats,
+            row_blocks: &self.rows.row_blocks,
             next: self.rows.first_in_channel(channel),
             channel,
         }
@@ -171,8 +171,8 @@ impl SubTable {
             return None;
         };
         let mut rest = Walk {
-            seats: &self.rows.seats,
-            next: self.rows.seats.next_in_channel(at),
+            row_blocks: &self.rows.row_blocks,
+            next: self.rows.row_blocks.next_in_channel(at),
             channel,
         };
         rest.next()
@@ -209,7 +209,7 @@ impl SubTable {
         ensures rows { AreRows self.now }
     {
         ChannelWalk {
-            seats: &self.rows.seats,
+            row_blocks: &self.rows.row_blocks,
             next: self.rows.first_in_session(session),
             session,
         }

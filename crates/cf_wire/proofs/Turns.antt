@@ -17,9 +17,9 @@ use Rattle.cf_wire.specs.Stages.{WireState, is_open, is_over, waits_by, end_by, 
 use Rattle.cf_wire.specs.Stages.{settled, Halts, Stops}
 use Rattle.cf_wire.specs.Turn.{Event, heard, passed, ended, rejected, failed, none, sent, refused, flushed, tried}
 use Rattle.cf_wire.specs.Turn.{reads, moves, bytes, bytes_before, is_stop, most_reads, most_bytes, IsEmptied, Rests}
-use Rattle.cf_wire.specs.Turn.{IsUsedUp, EndFits, Mark, going, emptied, over, Fits, is_bad, is_signal, code_in}
+use Rattle.cf_wire.specs.Turn.{IsUsedUp, EndFits, Reached, going, emptied, over, Fits, is_bad, is_signal, code_in}
 use Rattle.cf_wire.specs.Turn.{bad_message, Puts, Fails, Settles, Tells, TellsIf, FlushLeaves, Place, place, DeskDoes}
-use Rattle.cf_wire.specs.Turn.{WireDoes, Did, Part, Turns, mark_of, read_in}
+use Rattle.cf_wire.specs.Turn.{WireDoes, Did, Part, Turns, reached_by, read_in}
 use Rattle.cf_wire.specs.declared.end.Stage.{Stage}
 use Rattle.cf_wire.specs.declared.end.Stage.TheVariants.{Open, Unflushed, Over}
 use Rattle.cf_wire.specs.declared.end.WireEnd.{WireEnd}
@@ -180,7 +180,7 @@ end_append (turn.Closed code) es fs b h = tt
 end_append turn.StreamFault es fs b h = tt
 end_append turn.Memory es fs b h = tt
 
-fits_append : (mark : Mark) (es fs : List Event) (b : Bool) → Fits mark es b → Fits mark (es ++ fs) b
+fits_append : (reached : Reached) (es fs : List Event) (b : Bool) → Fits reached es b → Fits reached (es ++ fs) b
 fits_append going es fs b h = tt
 fits_append emptied es fs b h = emptied_append es fs h
 fits_append (over end) es fs b h = end_append end es fs b h
@@ -309,13 +309,13 @@ module _ {D S : Type 0} (hears : D → List ℕ → D → Type 0) (gives : D →
         fits = tt;
       }
 
-  pub turns_one : (e : Event) (low high left rest : ℕ) (mark : Mark) (p q : Place D S)
+  pub turns_one : (e : Event) (low high left rest : ℕ) (reached : Reached) (p q : Place D S)
       → DeskDoes hears gives ready remaining contents e p.desk q.desk
       → WireDoes hears gives ready remaining contents e p.wire q.wire
       → low ≤ moves (e ∷ []) → reads (e ∷ []) ≤ high → rest ≡ left - bytes (e ∷ []) → (reads (e ∷ []) ≡ 0)
-      ⊎ (bytes_before (e ∷ []) < left) → Fits mark (e ∷ []) (ready q.desk)
-      → Part hears gives ready remaining contents low high left rest mark p q
-  turns_one e low high left rest mark p q d w busy bound spends light fits =
+      ⊎ (bytes_before (e ∷ []) < left) → Fits reached (e ∷ []) (ready q.desk)
+      → Part hears gives ready remaining contents low high left rest reached p q
+  turns_one e low high left rest reached p q d w busy bound spends light fits =
       record {
         events = e ∷ [];
         did = (p, refl, d, w);
@@ -326,25 +326,25 @@ module _ {D S : Type 0} (hears : D → List ℕ → D → Type 0) (gives : D →
         fits = fits;
       }
 
-  pub turns_then : (l m low h k high left mid rest : ℕ) (first mark : Mark) (p q r : Place D S)
+  pub turns_then : (l m low h k high left mid rest : ℕ) (first reached : Reached) (p q r : Place D S)
       → Part hears gives ready remaining contents l h left mid first p q
-      → Part hears gives ready remaining contents m k mid rest mark q r → low ≤ l + m → h + k ≤ high
-      → Part hears gives ready remaining contents low high left rest mark p r
-  turns_then l m low h k high left mid rest first mark p q r a b busy bound = record {
+      → Part hears gives ready remaining contents m k mid rest reached q r → low ≤ l + m → h + k ≤ high
+      → Part hears gives ready remaining contents low high left rest reached p r
+  turns_then l m low h k high left mid rest first reached p q r a b busy bound = record {
     events = b.events ++ a.events;
     did = did_then b.events a.events p q r a.did b.did;
     busy = omega (arith, moves_append b.events a.events, a.busy, b.busy, busy);
     bound = omega (arith, reads_append b.events a.events, a.bound, b.bound, bound);
     spends = omega (arith, bytes_append b.events a.events, a.spends, b.spends);
     light = light_then left mid b.events a.events a.spends a.light b.light;
-    fits = fits_append mark b.events a.events (ready r.desk) b.fits;
+    fits = fits_append reached b.events a.events (ready r.desk) b.fits;
   }
 
   -- where nothing was read no byte of what was left is spent
-  pub turns_quiet : (low high left rest : ℕ) (mark : Mark) (p q : Place D S)
-      → Part hears gives ready remaining contents low 0 0 0 mark p q → rest ≡ left
-      → Part hears gives ready remaining contents low high left rest mark p q
-  turns_quiet low high left rest mark p q a same = record {
+  pub turns_quiet : (low high left rest : ℕ) (reached : Reached) (p q : Place D S)
+      → Part hears gives ready remaining contents low 0 0 0 reached p q → rest ≡ left
+      → Part hears gives ready remaining contents low high left rest reached p q
+  turns_quiet low high left rest reached p q a same = record {
     events = a.events;
     did = a.did;
     busy = a.busy;
@@ -354,18 +354,18 @@ module _ {D S : Type 0} (hears : D → List ℕ → D → Type 0) (gives : D →
     fits = a.fits;
   }
 
-  -- the same under another name of its mark
-  pub turns_as : (low high left rest : ℕ) (mark named : Mark) (p q : Place D S)
-      → Part hears gives ready remaining contents low high left rest mark p q → mark ≡ named
+  -- the same under another name of how far it came
+  pub turns_as : (low high left rest : ℕ) (reached named : Reached) (p q : Place D S)
+      → Part hears gives ready remaining contents low high left rest reached p q → reached ≡ named
       → Part hears gives ready remaining contents low high left rest named p q
-  turns_as low high left rest mark named p q a same = let P : Mark → Type 0 =
+  turns_as low high left rest reached named p q a same = let P : Reached → Type 0 =
       λ m. Part hears gives ready remaining contents low high left rest m p q in subst P same a
 
   -- there may be more
-  pub turns_sent_much : (low l : ℕ) (mark : Mark) (p q : Place D S)
-      → Part hears gives ready remaining contents l 0 0 0 mark p q → most_reads ≤ l → low ≡ 0
+  pub turns_sent_much : (low l : ℕ) (reached : Reached) (p q : Place D S)
+      → Part hears gives ready remaining contents l 0 0 0 reached p q → most_reads ≤ l → low ≡ 0
       → Part hears gives ready remaining contents low 0 0 0 (over turn.More) p q
-  turns_sent_much low l mark p q a much is = record {
+  turns_sent_much low l reached p q a much is = record {
     events = a.events;
     did = a.did;
     busy = omega (arith, is);
@@ -389,10 +389,10 @@ module _ {D S : Type 0} (hears : D → List ℕ → D → Type 0) (gives : D →
         fits = a.fits;
       }
 
-  pub turns_go_on : (low high rest : ℕ) (mark : Mark) (p q : Place D S)
-      → Part hears gives ready remaining contents low high most_bytes rest mark p q → high ≤ most_reads
+  pub turns_go_on : (low high rest : ℕ) (reached : Reached) (p q : Place D S)
+      → Part hears gives ready remaining contents low high most_bytes rest reached p q → high ≤ most_reads
       → (most_reads ≤ low) ⊎ (rest ≡ 0) → Turns hears gives ready remaining contents turn.More p q
-  turns_go_on low high rest mark p q a bound (inl h) =
+  turns_go_on low high rest reached p q a bound (inl h) =
       record {
         events = a.events;
         did = a.did;
@@ -400,7 +400,7 @@ module _ {D S : Type 0} (hears : D → List ℕ → D → Type 0) (gives : D →
         light = light_all a.events a.light;
         fits = inl (omega (arith, a.busy, h));
       }
-  turns_go_on low high rest mark p q a bound (inr h) =
+  turns_go_on low high rest reached p q a bound (inr h) =
       record {
         events = a.events;
         did = a.did;
@@ -421,10 +421,10 @@ module _ {D S : Type 0} (hears : D → List ℕ → D → Type 0) (gives : D →
         fits = rests_emptied a.events (ready q.desk) a.fits is;
       }
 
-  pub turns_after : (low : ℕ) (mark : Mark) (end : TurnEnd) (p q r : Place D S)
-      → Part hears gives ready remaining contents low 0 0 0 mark p q
+  pub turns_after : (low : ℕ) (reached : Reached) (end : TurnEnd) (p q r : Place D S)
+      → Part hears gives ready remaining contents low 0 0 0 reached p q
       → Turns hears gives ready remaining contents end q r → Turns hears gives ready remaining contents end p r
-  turns_after low mark end p q r a b = record {
+  turns_after low reached end p q r a b = record {
     events = b.events ++ a.events;
     did = did_then b.events a.events p q r a.did b.did;
     bound = omega (arith, reads_append b.events a.events, a.bound, b.bound);
@@ -457,7 +457,7 @@ module _ {D S : Type 0} (hears : D → List ℕ → D → Type 0) (gives : D →
   pub flush_turns : (d : D) (v w : WireState S) (close : Option ℕ) (r : Result (Unit {0}) TurnEnd)
       → v.stage ≡ Unflushed close → Flushed contents v.socket w.socket
       → FlushLeaves close w.socket w.stage → OnOk r (w.stage ≡ Open) → IfErr r (λ end. Stops end w.stage)
-      → Part hears gives ready remaining contents 0 0 0 0 (mark_of r) (place d v) (place d w)
+      → Part hears gives ready remaining contents 0 0 0 0 (reached_by r) (place d v) (place d w)
   flush_turns d v w close (Ok u) is f (inl leaves) opened stops =
       turns_one flushed 0 0 0 0 going _ _ refl (close, is, f, leaves.0, leaves.1) (omega arith) (omega arith)
       (omega arith) (inl (omega arith)) tt
@@ -472,27 +472,27 @@ module _ {D S : Type 0} (hears : D → List ℕ → D → Type 0) (gives : D →
 
   -- ---- by what was read
 
-  turns_at : (low high left rest : ℕ) (mark : Mark) (d : D) (u v : WireState S) (q : Place D S) → u ≡ v
-      → Part hears gives ready remaining contents low high left rest mark (place d u) q
-      → Part hears gives ready remaining contents low high left rest mark (place d v) q
-  turns_at low high left rest mark d u v q same h =
+  turns_at : (low high left rest : ℕ) (reached : Reached) (d : D) (u v : WireState S) (q : Place D S) → u ≡ v
+      → Part hears gives ready remaining contents low high left rest reached (place d u) q
+      → Part hears gives ready remaining contents low high left rest reached (place d v) q
+  turns_at low high left rest reached d u v q same h =
       let P : WireState S → Type 0 =
-      λ x. Part hears gives ready remaining contents low high left rest mark (place d x) q in
+      λ x. Part hears gives ready remaining contents low high left rest reached (place d x) q in
       subst P same h
 
   stage_at : (u v : WireState S) → u ≡ v → v.stage ≡ Open → u.stage ≡ Open
   stage_at u v same is = ap (λ (x : WireState S). x.stage) same ∙ is
 
   -- a message was acted on at the stage that was found
-  pub acted_turns : (low high left rest : ℕ) (mark : Mark) (d : D) (u v : WireState S) (q : Place D S) → u ≡ v
+  pub acted_turns : (low high left rest : ℕ) (reached : Reached) (d : D) (u v : WireState S) (q : Place D S) → u ≡ v
       → v.stage ≡ Open
-      → Part hears gives ready remaining contents low high left rest mark
+      → Part hears gives ready remaining contents low high left rest reached
       (place d (record { socket = u.socket; stage = Open })) q
-      → Part hears gives ready remaining contents low high left rest mark (place d v) q
-  acted_turns low high left rest mark d u v q same is h =
+      → Part hears gives ready remaining contents low high left rest reached (place d v) q
+  acted_turns low high left rest reached d u v q same is h =
       let found : WireState S = record { socket = u.socket; stage = Open } in
       let at : found ≡ u = λ i. record { socket = u.socket; stage = sym (stage_at u v same is) i } in
-      turns_at low high left rest mark d found v q (at ∙ same) h
+      turns_at low high left rest reached d found v q (at ∙ same) h
 
   pub heard_turns : (d e : D) (u v w : WireState S) (m : Message) (t : List ℕ) (left rest : ℕ) → u ≡ v → v.stage ≡ Open
       → ready d ≡ true → 0 < left → w.stage ≡ u.stage
@@ -518,7 +518,7 @@ module _ {D S : Type 0} (hears : D → List ℕ → D → Type 0) (gives : D →
       (left rest : ℕ) → ready d ≡ true → 0 < left → rest ≡ left
       → v.stage ≡ Open → is_bad m → Reads remaining v.socket mid m
       → Settles contents mid (Close bad_message) w.socket w.stage → IfErr r (λ end. Stops end w.stage)
-      → Part hears gives ready remaining contents (read_in r) 1 left rest (mark_of r) (place d v) (place d w)
+      → Part hears gives ready remaining contents (read_in r) 1 left rest (reached_by r) (place d v) (place d w)
   reject_here d v w mid m (Ok u) left rest free room stay is bad read put stops =
       turns_one rejected 1 1 left rest going _ _ (free, refl) (is, (m, mid, bad, read, put)) (omega arith) (omega arith)
       (omega (arith, stay)) (inr (omega (arith, room))) tt
@@ -532,7 +532,7 @@ module _ {D S : Type 0} (hears : D → List ℕ → D → Type 0) (gives : D →
       → ready d ≡ true → 0 < left → rest ≡ left → is_bad m
       → Reads remaining u.socket mid m → code ≡ bad_message → Settles contents mid (Close code) w.socket w.stage
       → IfErr r (λ end. Stops end w.stage)
-      → Part hears gives ready remaining contents (read_in r) 1 left rest (mark_of r) (place d v) (place d w)
+      → Part hears gives ready remaining contents (read_in r) 1 left rest (reached_by r) (place d v) (place d w)
   reject_turns d u v w mid m code r left rest same is free room stay bad read number put stops =
       let P : ℕ → Type 0 = λ n. Settles contents mid (Close n) w.socket w.stage in
       turns_at _ _ _ _ _ d u v _ same (reject_here d u w mid m r left rest free room stay (stage_at u v same is) bad
@@ -542,7 +542,7 @@ module _ {D S : Type 0} (hears : D → List ℕ → D → Type 0) (gives : D →
       → 0 < left → rest ≡ left → WireDoes hears gives ready remaining contents (ended code) v x
       → Flushed contents x.socket w.socket → FlushLeaves (Some code) w.socket w.stage → OnOk r (w.stage ≡ Open)
       → IfErr r (λ end. Stops end w.stage)
-      → Part hears gives ready remaining contents (read_in r) 1 left rest (mark_of r) (place d v) (place d w)
+      → Part hears gives ready remaining contents (read_in r) 1 left rest (reached_by r) (place d v) (place d w)
   close_here d v x w code (Ok u) left rest free room stay did f leaves opened stops =
       turns_then 1 0 1 1 0 1 left left rest going going _ (place d x) _
       (turns_one (ended code) 1 1 left left going _ _ (free, refl) did (omega arith) (omega arith) (omega arith)
@@ -561,7 +561,7 @@ module _ {D S : Type 0} (hears : D → List ℕ → D → Type 0) (gives : D →
       → ready d ≡ true → 0 < left → rest ≡ left → Reads remaining u.socket mid (Ok m)
       → code_in (content_of m) ≡ Some code → Flushed contents mid w.socket → FlushLeaves (Some code) w.socket w.stage
       → OnOk r (w.stage ≡ Open) → IfErr r (λ end. Stops end w.stage)
-      → Part hears gives ready remaining contents (read_in r) 1 left rest (mark_of r) (place d v) (place d w)
+      → Part hears gives ready remaining contents (read_in r) 1 left rest (reached_by r) (place d v) (place d w)
   close_turns d u v w mid m code r left rest same is free room stay read says f leaves opened stops =
       turns_at _ _ _ _ _ d u v _ same
       (close_here d u (record { socket = mid; stage = Unflushed (Some code) }) w code r left rest free room stay

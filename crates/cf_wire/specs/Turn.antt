@@ -126,12 +126,12 @@ EndFits turn.More es is_ready = IsUsedUp es
 EndFits other es is_ready = ⊤
 
 -- how far a part of a turn has come: it goes on; the desk had nothing; or the turn ends so
-pub data Mark : Type 0 where
-  going : Mark
-  emptied : Mark
-  over : (end : TurnEnd) → Mark
+pub data Reached : Type 0 where
+  going : Reached
+  emptied : Reached
+  over : (end : TurnEnd) → Reached
 
-abbrev pub Fits : Mark → List Event → Bool → Type 0
+abbrev pub Fits : Reached → List Event → Bool → Type 0
 Fits going es is_ready = ⊤
 Fits emptied es is_ready = IsEmptied es
 Fits (over end) es is_ready = EndFits end es is_ready
@@ -266,14 +266,14 @@ module _ {D S : Type 0} where
 
     -- a part of a turn: at least `low` messages were read or sent, and at most `high` read; of `left` bytes `rest`
     -- are left
-    pub record Part (low high left rest : ℕ) (mark : Mark) (p q : Place D S) : Type 0 where
+    pub record Part (low high left rest : ℕ) (reached : Reached) (p q : Place D S) : Type 0 where
       pub events : List Event
       pub did : Did events p q
       pub busy : low ≤ moves events
       pub bound : reads events ≤ high
       pub spends : rest ≡ left - bytes events
       pub light : (reads events ≡ 0) ⊎ (bytes_before events < left)
-      pub fits : Fits mark events (ready q.desk)
+      pub fits : Fits reached events (ready q.desk)
 
     -- a turn that ends so
     pub record Turns (end : TurnEnd) (p q : Place D S) : Type 0 where
@@ -283,14 +283,14 @@ module _ {D S : Type 0} where
       pub light : bytes_before events < most_bytes
       pub fits : EndFits end events (ready q.desk)
 
-abbrev pub mark_of : {A : Type 0} → Result A TurnEnd → Mark
-mark_of (Ok x) = going
-mark_of (Err end) = over end
+abbrev pub reached_by : {A : Type 0} → Result A TurnEnd → Reached
+reached_by (Ok x) = going
+reached_by (Err end) = over end
 
 -- the same where the desk is asked until it has nothing
-abbrev pub mark_emptied : {A : Type 0} → Result A TurnEnd → Mark
-mark_emptied (Ok x) = emptied
-mark_emptied (Err end) = over end
+abbrev pub reached_emptied : {A : Type 0} → Result A TurnEnd → Reached
+reached_emptied (Ok x) = emptied
+reached_emptied (Err end) = over end
 
 -- 1 where a message was read
 abbrev pub read_in : {A : Type 0} → Result A TurnEnd → ℕ

@@ -5,7 +5,7 @@ ghost use Rattle.tungstenite.specs.Socket.{Flushed, Reads, Socket, close_of};
 ghost use Rattle.cf_queue.specs.declared.queue.Out.TheVariants as out;
 ghost use Rattle.cf_wire.specs.CloseFrame.{frame_of};
 ghost use Rattle.cf_wire.specs.Stages.{is_unflushed, is_over, waits_by, end_by, stage_after, settled, told, code_of_cause, code_of_fault, Agrees, Halts, Stops};
-ghost use Rattle.cf_wire.specs.Turn.{Part, Turns, Settles, Tells, TellsIf, FlushLeaves, place, read_in, mark_of, mark_emptied, code_in};
+ghost use Rattle.cf_wire.specs.Turn.{Part, Turns, Settles, Tells, TellsIf, FlushLeaves, place, read_in, reached_by, reached_emptied, code_in};
 
 use crate::desk::Desk;
 use crate::end::{Stage, TurnEnd, WireEnd};
@@ -209,7 +209,7 @@ impl<S: Read + Write + Drop> Wire<S> {
     fn give_all<D: Desk>(&mut self, desk: &mut D) -> Result<(), TurnEnd>
         requires { self.old.stage ≡ Stage.Open }
         ensures turns { Part D.hears D.gives D.ready S.remaining S.contents 0 0 0 0
-            (mark_emptied result) (place desk.old self.old) (place desk.new self.new) }
+            (reached_emptied result) (place desk.old self.old) (place desk.new self.new) }
         ensures open { OnOk result (self.new.stage ≡ Stage.Open) }
         ensures ends { IfErr result (λ end. Agrees end self.new.stage) }
     {
@@ -230,7 +230,7 @@ impl<S: Read + Write + Drop> Wire<S> {
         requires ready { D.ready desk.old ≡ true }
         requires room { 0 < left.old }
         ensures turns { Part D.hears D.gives D.ready S.remaining S.contents (read_in result) 1
-            left.old left.new (mark_of result) (place desk.old self.old)
+            left.old left.new (reached_by result) (place desk.old self.old)
             (place desk.new self.new) }
         ensures open { OnOk result (self.new.stage ≡ Stage.Open) }
         ensures ends { IfErr result (λ end. Halts end self.new.stage) }
@@ -260,7 +260,7 @@ impl<S: Read + Write + Drop> Wire<S> {
         ensures turns { (before : Socket S)
             → Reads S.remaining before self.old.socket (Ok message.now)
             → Part D.hears D.gives D.ready S.remaining S.contents (read_in result) 1
-            left.old left.new (mark_of result)
+            left.old left.new (reached_by result)
             (place desk.old (record { socket = before; stage = Stage.Open }))
             (place desk.new self.new) }
         ensures open { OnOk result (self.new.stage ≡ Stage.Open) }

@@ -27,7 +27,7 @@ use Rattle.cf_machine.specs.World.{World}
 use Rattle.cf_world.specs.BrokerTie.{ShowsBroker}
 use Rattle.cf_world.specs.ClientTie.{Becomes, IsOwn, sent_state}
 use Rattle.cf_world.specs.HubCalls.{AtHub, Closed, Told}
-use Rattle.cf_world.specs.NodesTie.{IsSeated, MayAsk, seated}
+use Rattle.cf_world.specs.NodesTie.{IsAtAddress, MayAsk, session_at}
 use Rattle.cf_world.specs.Tie.{AreTied}
 use Rattle.cf_world.specs.declared.broker.WorldBroker.{WorldBroker as Code}
 use Rattle.cf_world.specs.declared.clients.Peer.{Peer}
@@ -36,7 +36,7 @@ use Rattle.cf_world.proofs.Ends.{Keeps, closes_keeps, push_keeps}
 use Rattle.cf_world.proofs.Exchanged.{after}
 use Rattle.cf_world.proofs.Exchanging.{exchange_goes, sat}
 use Rattle.cf_world.proofs.Going.{Stays}
-use Rattle.cf_world.proofs.NodesTie.{LinkGoes, link_asks, link_goes, met_name, one_name, seat_shows}
+use Rattle.cf_world.proofs.NodesTie.{LinkGoes, link_asks, link_goes, met_name, one_name, address_shows}
 use Rattle.cf_world.proofs.Owned.{push-own}
 use Rattle.cf_world.proofs.SentOwn.{own_sent}
 use Rattle.cf_world.proofs.Sitting.{client_here, hub_there}
@@ -59,14 +59,14 @@ module _ (cfg : Config) (w : World) (l : ClientLink) (k : SentCommand) where
 module _ {cfg : Config} {table : NamespaceTable} {b : Code} {hubs : ℕ → Option Node} {peers : List ℕ → Option Peer}
     {m : World}
     (t : AreTied cfg table b hubs peers m) (x : List ℕ) (s : SessionAddress) (p : Peer) (found : peers x ≡ Some p)
-    (sits : p.seat ≡ Some s)
+    (sits : p.address ≡ Some s)
     (k : SentCommand) (peers' : List ℕ → Option Peer)
     (becomes : Becomes x p (sent_state k.request (state_of p.client)) peers peers')
     (stays : Stays) (new : Code) (broker : Broker) (grown : Grown m.broker.lists broker.lists)
     (shows : ShowsBroker cfg.namespaces new broker)
     (calls : CallsAreAlike broker.lists) (moves : MovesAreAlike broker.lists) where
-  seat : IsSeated cfg.namespaces m.broker.lists (seated hubs s) s.node (m.links x)
-  seat = seat_shows t.nodes x s (sat t x s p found sits k peers' becomes)
+  address : IsAtAddress cfg.namespaces m.broker.lists (session_at hubs s) s.node (m.links x)
+  address = address_shows t.nodes x s (sat t x s p found sits k peers' becomes)
 
   own : All (IsOwn (sent_state k.request (state_of p.client))) (m.links x).session.notes
   own = own_sent (state_of p.client) k.request (m.links x).session.notes (client_here t x p found).own
@@ -74,7 +74,8 @@ module _ {cfg : Config} {table : NamespaceTable} {b : Code} {hubs : ℕ → Opti
   pub goes_by : (g : Session → Session) → Keeps g
       → LinkGoes cfg.namespaces (m.links x) (after k (g (m.links x).session) (m.links x).channels (m.links x))
   goes_by g keeps =
-      link_goes seat (after k (g (m.links x).session) (m.links x).channels (m.links x)) refl refl seat.way refl refl g
+      link_goes address (after k (g (m.links x).session) (m.links x).channels (m.links x)) refl refl address.way refl
+      refl g
       keeps refl
 
   -- THE NODE ANSWERED
@@ -140,7 +141,7 @@ module _ {cfg : Config} {table : NamespaceTable} {b : Code} {hubs : ℕ → Opti
       (rest.refused ∙ (t.nodes.hub s.node h was).refused)
       begun.one.others (one_name begun.one) (begins (spoken broker.lists) c id since (m.links x).session)
       (and_also c (m.links x).channels)
-      (link_asks seat (after k (begins (spoken broker.lists) c id since (m.links x).session)
-      (and_also c (m.links x).channels) (m.links x)) refl refl seat.way refl (spoken broker.lists) c id since refl
+      (link_asks address (after k (begins (spoken broker.lists) c id since (m.links x).session)
+      (and_also c (m.links x).channels) (m.links x)) refl refl address.way refl (spoken broker.lists) c id since refl
       refl is_open set_up)
       own (says broker.lists)

@@ -15,7 +15,7 @@ use Rattle.cf_world.specs.Exchange.{ListAnswered, Lists, PutAnswered, Puts}
 use Rattle.cf_session.specs.SessionMachine.{reply_text}
 use Rattle.cf_world.specs.HubCalls.{Answered, AreSame, AtHub, Closed, Hubs, Moves, Told, error_text, who_in}
 use Rattle.cf_world.specs.Judging.{Judges}
-use Rattle.cf_world.specs.NodesTie.{seated, session_in}
+use Rattle.cf_world.specs.NodesTie.{session_at, session_in}
 use Rattle.cf_world.specs.Sending.{Acts}
 use Rattle.cf_world.specs.declared.broker.WorldBroker.{WorldBroker as Code}
 use Rattle.cf_world.specs.declared.broker.PublishOutcome.{PublishOutcome}
@@ -34,7 +34,7 @@ PutAnsweredAt outcome.NotSetUp s id old new = Answered s id (Failed (code_of err
 pub record PutsAt (table : NamespaceTable) (m : Broker) (s : SessionAddress) (c key body : List ℕ) (id : ℕ) (new : Code)
     (hubs hubs' : Hubs) : Type 0 where
   pub result : PublishOutcome
-  pub publishes : Publishes table m c key (record { body = body; info = who_in (seated hubs s) }) new result
+  pub publishes : Publishes table m c key (record { body = body; info = who_in (session_at hubs s) }) new result
   pub answered : PutAnsweredAt result s id hubs hubs'
 
 abbrev pub ListAnsweredAt : Option History → SessionAddress → ℕ → Hubs → Hubs → Type 0
@@ -58,7 +58,7 @@ ActsAt s (judged.Granted command) old new = AreSame old new
 pub record HearsAt (table : NamespaceTable) (s : SessionAddress) (text : List ℕ) (old new : Hubs) (j : Judged) : Type
     0 where
   pub closed : Bool
-  pub is_closed : closed ≡ not (is_open (seated old s))
+  pub is_closed : closed ≡ not (is_open (session_at old s))
   pub judges : Judges table closed text j
   pub acts : ActsAt s j old new
 
@@ -87,8 +87,8 @@ module _ {n : ℕ} {h g : Node} {old new : Hubs} (v : Moves n h g old new) where
   ]
 
 module _ (s : SessionAddress) {h g : Node} {old new : Hubs} (v : Moves s.node h g old new) where
-  pub seated-here : seated old s ≡ attached_at h s.session
-  seated-here = ap (λ (o : Option Node). session_in o s.session) v.was
+  pub session_at-here : session_at old s ≡ attached_at h s.session
+  session_at-here = ap (λ (o : Option Node). session_in o s.session) v.was
 
   put-answered : (r : PublishOutcome) (id : ℕ) → PutAnswered r s.session id h g → PutAnsweredAt r s id old new
   put-answered outcome.Accepted id a = moved v (Told s.session (reply_text id PutDone)) a
@@ -102,7 +102,7 @@ module _ (s : SessionAddress) {h g : Node} {old new : Hubs} (v : Moves s.node h 
   puts-at {table} {m} {c} {key} {body} {id} {b} y = record {
     result = y.result;
     publishes = subst (λ (o : Option Attached). Publishes table m c key (record { body = body; info = who_in o }) b
-        y.result) (sym seated-here) y.publishes;
+        y.result) (sym session_at-here) y.publishes;
     answered = put-answered y.result id y.answered;
   }
 
@@ -126,7 +126,7 @@ module _ (s : SessionAddress) {h g : Node} {old new : Hubs} (v : Moves s.node h 
       → HearsAt table s text old new j
   hears-at j closed shut judges acts = record {
     closed = closed;
-    is_closed = shut ∙ ap (λ (o : Option Attached). not (is_open o)) (sym seated-here);
+    is_closed = shut ∙ ap (λ (o : Option Attached). not (is_open o)) (sym session_at-here);
     judges = judges;
     acts = acts-at j acts;
   }

@@ -46,24 +46,26 @@ module _ (w : Words) where
   read_ends d r (Asked id since k) b h c e =
       put_ends d (Ready id (is_some since) r (w.with_read k)) b (λ x. ap is_off h) c e
   read_ends d r (Ready id was x k) b h c e = e
-  read_ends d r (On p mark) b h c e = e
+  read_ends d r (On p behind_at) b h c e = e
 
   pub reads_ends : (d : List ℕ) (r : Reading) → OnlyEnds (reads w d r)
   reads_ends d r b c e = read_ends d r (b.subs d) b refl c e
 
-  verdict_ends : (d : List ℕ) (q : Position) (mark : Option ℕ) (x : Verdict) (b : Session) → is_off (b.subs d) ≡ false
-      → (c : List ℕ) → is_off ((by_verdict w d q mark x b).subs c) ≡ false → is_off (b.subs c) ≡ false
-  verdict_ends d q mark Drop b h c e = e
-  verdict_ends d q mark Pass b h c e =
-      put_ends d (On q mark) b (λ x. h) c (push_ends (w.place d q) (put_sub d (On q mark) b) c e)
-  verdict_ends d q mark Insufficient b h c e = put_ends d Off b (λ x. h) c (push_ends (w.end d) (put_sub d Off b) c e)
+  verdict_ends : (d : List ℕ) (q : Position) (behind_at : Option ℕ) (x : Verdict) (b : Session)
+      → is_off (b.subs d) ≡ false
+      → (c : List ℕ) → is_off ((by_verdict w d q behind_at x b).subs c) ≡ false → is_off (b.subs c) ≡ false
+  verdict_ends d q behind_at Drop b h c e = e
+  verdict_ends d q behind_at Pass b h c e =
+      put_ends d (On q behind_at) b (λ x. h) c (push_ends (w.place d q) (put_sub d (On q behind_at) b) c e)
+  verdict_ends d q behind_at Insufficient b h c e =
+      put_ends d Off b (λ x. h) c (push_ends (w.end d) (put_sub d Off b) c e)
 
   come_ends : (d : List ℕ) (q : Position) (s : Sub) (b : Session) → b.subs d ≡ s → (c : List ℕ)
       → is_off ((come_at w d q s b).subs c) ≡ false → is_off (b.subs c) ≡ false
   come_ends d q Off b h c e = e
   come_ends d q (Asked id since k) b h c e = put_ends d (Asked id since (w.with_one q k)) b (λ x. ap is_off h) c e
   come_ends d q (Ready id was r k) b h c e = put_ends d (Ready id was r (w.with_one q k)) b (λ x. ap is_off h) c e
-  come_ends d q (On p mark) b h c e = verdict_ends d q mark (verdict p q) b (ap is_off h) c e
+  come_ends d q (On p behind_at) b h c e = verdict_ends d q behind_at (verdict p q) b (ap is_off h) c e
 
   pub comes_ends : (d : List ℕ) (q : Position) → OnlyEnds (comes w d q)
   comes_ends d q b c e = come_ends d q (b.subs d) b refl c e
@@ -75,7 +77,7 @@ module _ (w : Words) where
   finish_ends d (Ready id was r k) b h c e =
       put_ends d (finished w r k) b (λ x. ap is_off h) c
       (says_ends (finish_notes w d id was r k) (put_sub d (finished w r k) b) c e)
-  finish_ends d (On p mark) b h c e = e
+  finish_ends d (On p behind_at) b h c e = e
 
   pub finishes_ends : (d : List ℕ) → OnlyEnds (finishes w d)
   finishes_ends d b c e = finish_ends d (b.subs d) b refl c e
@@ -91,7 +93,7 @@ module _ (w : Words) where
   check_ends d top Off b h c e = e
   check_ends d top (Asked id since k) b h c e = e
   check_ends d top (Ready id was r k) b h c e = e
-  check_ends d top (On p mark) b h c e = by_check_ends d p (position_check top p mark) b (ap is_off h) c e
+  check_ends d top (On p behind_at) b h c e = by_check_ends d p (position_check top p behind_at) b (ap is_off h) c e
 
   pub checks_ends : (d : List ℕ) (top : Option Position) → OnlyEnds (checks w d top)
   checks_ends d top b c e = check_ends d top (b.subs d) b refl c e
@@ -143,21 +145,22 @@ module _ (w : Words) where
   read_shut d r (Asked id since k) b e h =
       put_shut d (Ready id (is_some since) r (w.with_read k)) b (λ x. ap is_off e) h
   read_shut d r (Ready id was x k) b e h = h
-  read_shut d r (On p mark) b e h = h
+  read_shut d r (On p behind_at) b e h = h
 
-  verdict_shut : (d : List ℕ) (q : Position) (mark : Option ℕ) (x : Verdict) (b : Session) → is_off (b.subs d) ≡ false
-      → IsShutOff b → IsShutOff (by_verdict w d q mark x b)
-  verdict_shut d q mark Drop b e h = h
-  verdict_shut d q mark Pass b e h =
-      push_shut (w.place d q) (put_sub d (On q mark) b) (put_shut d (On q mark) b (λ x. e) h)
-  verdict_shut d q mark Insufficient b e h = push_shut (w.end d) (put_sub d Off b) (put_shut d Off b (λ x. e) h)
+  verdict_shut : (d : List ℕ) (q : Position) (behind_at : Option ℕ) (x : Verdict) (b : Session)
+      → is_off (b.subs d) ≡ false
+      → IsShutOff b → IsShutOff (by_verdict w d q behind_at x b)
+  verdict_shut d q behind_at Drop b e h = h
+  verdict_shut d q behind_at Pass b e h =
+      push_shut (w.place d q) (put_sub d (On q behind_at) b) (put_shut d (On q behind_at) b (λ x. e) h)
+  verdict_shut d q behind_at Insufficient b e h = push_shut (w.end d) (put_sub d Off b) (put_shut d Off b (λ x. e) h)
 
   come_shut : (d : List ℕ) (q : Position) (s : Sub) (b : Session) → b.subs d ≡ s → IsShutOff b
       → IsShutOff (come_at w d q s b)
   come_shut d q Off b e h = h
   come_shut d q (Asked id since k) b e h = put_shut d (Asked id since (w.with_one q k)) b (λ x. ap is_off e) h
   come_shut d q (Ready id was r k) b e h = put_shut d (Ready id was r (w.with_one q k)) b (λ x. ap is_off e) h
-  come_shut d q (On p mark) b e h = verdict_shut d q mark (verdict p q) b (ap is_off e) h
+  come_shut d q (On p behind_at) b e h = verdict_shut d q behind_at (verdict p q) b (ap is_off e) h
 
   finish_shut : (d : List ℕ) (s : Sub) (b : Session) → b.subs d ≡ s → IsShutOff b → IsShutOff (finish_at w d s b)
   finish_shut d Off b e h = h
@@ -165,7 +168,7 @@ module _ (w : Words) where
   finish_shut d (Ready id was r k) b e h =
       says_shut (finish_notes w d id was r k) (put_sub d (finished w r k) b)
       (put_shut d (finished w r k) b (λ x. ap is_off e) h)
-  finish_shut d (On p mark) b e h = h
+  finish_shut d (On p behind_at) b e h = h
 
   by_check_shut : (d : List ℕ) (p : Position) (x : Checked) (b : Session) → is_off (b.subs d) ≡ false → IsShutOff b
       → IsShutOff (by_check w d p x b)
@@ -178,7 +181,7 @@ module _ (w : Words) where
   check_shut d top Off b e h = h
   check_shut d top (Asked id since k) b e h = h
   check_shut d top (Ready id was r k) b e h = h
-  check_shut d top (On p mark) b e h = by_check_shut d p (position_check top p mark) b (ap is_off e) h
+  check_shut d top (On p behind_at) b e h = by_check_shut d p (position_check top p behind_at) b (ap is_off e) h
 
 -- ---- both
 

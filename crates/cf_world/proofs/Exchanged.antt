@@ -117,7 +117,7 @@ module _ (lists : Lists) (b : Broker) (id : ℕ) (l : ClientLink) where
       by_value false = refl
   unbegun c from (Asked i since arrived) q = absurd (cc)
   unbegun c from (Ready i was r arrived) q = absurd (cc)
-  unbegun c from (On p mark) q = refl
+  unbegun c from (On p behind_at) q = refl
 
   pub heard_over : (e : ClientRequest) → IsQuiet e l.session
       → hears (wording lists) true (with_id id e) [] (sends e l)
@@ -141,7 +141,7 @@ module _ (lists : Lists) (b : Broker) (id : ℕ) (l : ClientLink) where
   isn't-waiting Off q = refl
   isn't-waiting (Asked i since arrived) q = absurd (cc)
   isn't-waiting (Ready i was r arrived) q = absurd (cc)
-  isn't-waiting (On p mark) q = refl
+  isn't-waiting (On p behind_at) q = refl
 
   still-quiet : (e : ClientRequest) → IsQuiet e l.session
       → is_unfinished ((passed_over e l.session).subs (channel_of e)) ≡ false

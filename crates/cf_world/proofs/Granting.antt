@@ -49,7 +49,7 @@ use Rattle.cf_world.specs.Exchange.{IsGranted}
 use Rattle.cf_session.specs.SessionMachine.{reply_text}
 use Rattle.cf_world.specs.HubCalls.{Answered, AskedTooMuch, AskedTwice, Asks, AtHub, Began, Hubs, LeftTold, OneHub}
 use Rattle.cf_world.specs.HubCalls.{Told, error_text, who_in}
-use Rattle.cf_world.specs.NodesTie.{IsSeated, name_of, seated, session_in}
+use Rattle.cf_world.specs.NodesTie.{IsAtAddress, name_of, session_at, session_in}
 use Rattle.cf_world.specs.Tie.{AreTied}
 use Rattle.cf_world.specs.declared.broker.WorldBroker.{WorldBroker as Code}
 use Rattle.cf_world.specs.declared.broker.PublishOutcome.{PublishOutcome}
@@ -64,7 +64,7 @@ use Rattle.cf_world.proofs.Exchanged.{after, exchange_as, met, met_ask, met_hist
 use Rattle.cf_world.proofs.Exchanging.{exchange_goes, sat}
 use Rattle.cf_world.proofs.Going.{Stays, grown-opened, grown-publish, publish-repeat}
 use Rattle.cf_world.proofs.Looking.{off_at, off_is, open_at}
-use Rattle.cf_world.proofs.NodesTie.{link_goes, met_name, one_name, seat_shows}
+use Rattle.cf_world.proofs.NodesTie.{link_goes, met_name, one_name, address_shows}
 use Rattle.cf_world.proofs.Owned.{push-own}
 use Rattle.cf_world.proofs.Passing.{publish-set-up}
 use Rattle.cf_world.proofs.Reading.{Missing}
@@ -101,7 +101,7 @@ then-leaves c g k = record {
 module _ {cfg : Config} {table : NamespaceTable} {b : Code} {hubs : ℕ → Option Node} {peers : List ℕ → Option Peer}
     {m : World}
     (t : AreTied cfg table b hubs peers m) (x : List ℕ) (s : SessionAddress) (p : Peer) (found : peers x ≡ Some p)
-    (sits : p.seat ≡ Some s)
+    (sits : p.address ≡ Some s)
     (e : ClientRequest) (peers' : List ℕ → Option Peer)
     (becomes : Becomes x p (sent_state e (state_of p.client)) peers peers')
     (stays : Stays) (calls : (lists : PublicationLists) → CallsAreAlike lists)
@@ -125,8 +125,8 @@ module _ {cfg : Config} {table : NamespaceTable} {b : Code} {hubs : ℕ → Opti
   code : IsCode l.client.fresh
   code = (subst (λ (n : ℕ). 1 ≤ n) same_id (omega arith), let few = g.left in grind (arith, nat_tests, few))
 
-  seat : IsSeated cfg.namespaces m.broker.lists (seated hubs s) s.node l
-  seat = seat_shows t.nodes x s (sat t x s p found sits k peers' becomes)
+  address : IsAtAddress cfg.namespaces m.broker.lists (session_at hubs s) s.node l
+  address = address_shows t.nodes x s (sat t x s p found sits k peers' becomes)
 
   there : (h : Node) × (hubs s.node ≡ Some h)
   there = hub_there t x s (sat t x s p found sits k peers' becomes)
@@ -184,7 +184,7 @@ module _ {cfg : Config} {table : NamespaceTable} {b : Code} {hubs : ℕ → Opti
 module _ {cfg : Config} {table : NamespaceTable} {b : Code} {hubs : ℕ → Option Node} {peers : List ℕ → Option Peer}
     {m : World}
     (t : AreTied cfg table b hubs peers m) (x : List ℕ) (s : SessionAddress) (p : Peer) (found : peers x ≡ Some p)
-    (sits : p.seat ≡ Some s)
+    (sits : p.address ≡ Some s)
     (c : List ℕ) (since : Option Position) (peers' : List ℕ → Option Peer)
     (becomes : Becomes x p (sent_state (Subscribe c since) (state_of p.client)) peers peers')
     (stays : Stays) (calls : (lists : PublicationLists) → CallsAreAlike lists)
@@ -200,7 +200,7 @@ module _ {cfg : Config} {table : NamespaceTable} {b : Code} {hubs : ℕ → Opti
   module _ (h : Node) (was : hubs s.node ≡ Some h) where
     says : SaysAt m.broker.lists (attached_at h s.session) lk.session
     says = subst (λ (o : Option Node). SaysAt m.broker.lists (session_in o s.session) lk.session) was
-        (seat t x s p found sits asks peers' becomes stays calls moves g).says
+        (address t x s p found sits asks peers' becomes stays calls moves g).says
 
     open_here : is_open (attached_at h s.session) ≡ true
     open_here = open_at m.broker.lists (attached_at h s.session) lk.session says ∙ ap not g.opened
@@ -273,7 +273,7 @@ module _ {cfg : Config} {table : NamespaceTable} {b : Code} {hubs : ℕ → Opti
 module _ {cfg : Config} {table : NamespaceTable} {b : Code} {hubs : ℕ → Option Node} {peers : List ℕ → Option Peer}
     {m : World}
     (t : AreTied cfg table b hubs peers m) (x : List ℕ) (s : SessionAddress) (p : Peer) (found : peers x ≡ Some p)
-    (sits : p.seat ≡ Some s)
+    (sits : p.address ≡ Some s)
     (c : List ℕ) (peers' : List ℕ → Option Peer) (becomes : Becomes x p (sent_state (Unsubscribe c) (state_of p.client))
     peers peers')
     (stays : Stays) (calls : (lists : PublicationLists) → CallsAreAlike lists)
@@ -303,9 +303,9 @@ module _ {cfg : Config} {table : NamespaceTable} {b : Code} {hubs : ℕ → Opti
       }) told.none
       (λ j ne. told.does.others j ne ∙ left.does.others j ne) (met_name told.does ∙ one_name left.does) v
       (m.links x).channels
-      (link_goes (seat t x s p found sits (Unsubscribe c) peers' becomes stays calls moves g)
+      (link_goes (address t x s p found sits (Unsubscribe c) peers' becomes stays calls moves g)
       (after k v (m.links x).channels (m.links x)) refl refl
-      (seat t x s p found sits (Unsubscribe c) peers' becomes stays calls moves g).way refl refl
+      (address t x s p found sits (Unsubscribe c) peers' becomes stays calls moves g).way refl refl
       (λ d. push (spoken lists) (LeftNote n) (leaves c d))
       (then-leaves c (push (spoken lists) (LeftNote n)) (push_keeps (spoken lists) (LeftNote n))) refl)
       (push-own lists (sent_state (Unsubscribe c) (state_of p.client)) (LeftNote n) (leaves c (m.links x).session) tt
@@ -338,7 +338,7 @@ refused-full false full h k = ap (λ (t : Bool). if t then Some AtLastOffset els
 module _ {cfg : Config} {table : NamespaceTable} {b : Code} {hubs : ℕ → Option Node} {peers : List ℕ → Option Peer}
     {m : World}
     (t : AreTied cfg table b hubs peers m) (x : List ℕ) (s : SessionAddress) (p : Peer) (found : peers x ≡ Some p)
-    (sits : p.seat ≡ Some s)
+    (sits : p.address ≡ Some s)
     (c key body : List ℕ) (peers' : List ℕ → Option Peer)
     (becomes : Becomes x p (sent_state (Publish c key body) (state_of p.client)) peers peers')
     (stays : Stays) (calls : (lists : PublicationLists) → CallsAreAlike lists)
@@ -347,19 +347,20 @@ module _ {cfg : Config} {table : NamespaceTable} {b : Code} {hubs : ℕ → Opti
   puts = Publish c key body
 
   abbrev datum : Datum
-  datum = record { body = body; info = who_in (seated hubs s) }
+  datum = record { body = body; info = who_in (session_at hubs s) }
 
   -- it names the client
   datum_is : datum ≡ datum_by (m.links x) body
   datum_is = ap (λ (w : Option Who). record { body = body; info = w })
-      (who_is (seated hubs s) (m.links x).name (seat t x s p found sits puts peers' becomes stays calls moves g).name)
+      (who_is (session_at hubs s) (m.links x).name (address t x s p found sits puts peers' becomes stays calls moves
+      g).name)
 
   -- and the client has a name
-  pub info_regular : IsInfo (who_in (seated hubs s))
+  pub info_regular : IsInfo (who_in (session_at hubs s))
   info_regular =
-      subst IsInfo (sym (who_is (seated hubs s) (m.links x).name
-      (seat t x s p found sits puts peers' becomes stays calls moves g).name))
-      (seat t x s p found sits puts peers' becomes stays calls moves g).named
+      subst IsInfo (sym (who_is (session_at hubs s) (m.links x).name
+      (address t x s p found sits puts peers' becomes stays calls moves g).name))
+      (address t x s p found sits puts peers' becomes stays calls moves g).named
 
   -- it was carried out, and the client is told
   done : (new : Code) (hubs' : ℕ → Option Node) → refusal_of puts (m.links x) m ≡ None
@@ -417,7 +418,7 @@ low-under limit st = omega arith
 module _ {cfg : Config} {table : NamespaceTable} {b : Code} {hubs : ℕ → Option Node} {peers : List ℕ → Option Peer}
     {m : World}
     (t : AreTied cfg table b hubs peers m) (x : List ℕ) (s : SessionAddress) (p : Peer) (found : peers x ≡ Some p)
-    (sits : p.seat ≡ Some s)
+    (sits : p.address ≡ Some s)
     (c : List ℕ) (limit : ℤ) (peers' : List ℕ → Option Peer)
     (becomes : Becomes x p (sent_state (ListHistory c limit) (state_of p.client)) peers peers')
     (stays : Stays) (missing : Missing) (calls : (lists : PublicationLists) → CallsAreAlike lists)

@@ -30,7 +30,7 @@ use Rattle.cf_machine.specs.Weights.{command_length}
 use Rattle.cf_machine.specs.World.{World}
 use Rattle.cf_world.specs.ClientTie.{Becomes, IsOwn, sent_state}
 use Rattle.cf_world.specs.HubCalls.{AreSame, AtHub, Closed, Told}
-use Rattle.cf_world.specs.NodesTie.{IsSeated, seated}
+use Rattle.cf_world.specs.NodesTie.{IsAtAddress, session_at}
 use Rattle.cf_world.specs.Tie.{AreTied}
 use Rattle.cf_world.specs.declared.broker.WorldBroker.{WorldBroker as Code}
 use Rattle.cf_world.specs.declared.clients.Peer.{Peer}
@@ -45,7 +45,7 @@ use Rattle.cf_world.proofs.Going.{Stays}
 use Rattle.cf_world.proofs.Looking.{off_is}
 use Rattle.cf_world.proofs.Named.{all-one}
 use Rattle.cf_machine.proofs.Names.{text_tells}
-use Rattle.cf_world.proofs.NodesTie.{seat_shows}
+use Rattle.cf_world.proofs.NodesTie.{address_shows}
 use Rattle.cf_world.proofs.SentOwn.{own_sent}
 use Rattle.cf_world.proofs.Sitting.{client_here, hub_there}
 
@@ -97,7 +97,7 @@ bad_name false e h = absurd (cc)
 module _ {cfg : Config} {table : NamespaceTable} {b : Code} {hubs : ℕ → Option Node} {peers : List ℕ → Option Peer}
     {m : World}
     (t : AreTied cfg table b hubs peers m) (x : List ℕ) (s : SessionAddress) (p : Peer) (found : peers x ≡ Some p)
-    (sits : p.seat ≡ Some s)
+    (sits : p.address ≡ Some s)
     (e : ClientRequest) (peers' : List ℕ → Option Peer)
     (becomes : Becomes x p (sent_state e (state_of p.client)) peers peers')
     (stays : Stays) (calls : CallsAreAlike m.broker.lists) (moves : MovesAreAlike m.broker.lists)
@@ -105,8 +105,8 @@ module _ {cfg : Config} {table : NamespaceTable} {b : Code} {hubs : ℕ → Opti
   abbrev k : SentCommand
   k = command_by x e m
 
-  seat : IsSeated cfg.namespaces m.broker.lists (seated hubs s) s.node (m.links x)
-  seat = seat_shows t.nodes x s (sat t x s p found sits k peers' becomes)
+  address : IsAtAddress cfg.namespaces m.broker.lists (session_at hubs s) s.node (m.links x)
+  address = address_shows t.nodes x s (sat t x s p found sits k peers' becomes)
 
   own : All (IsOwn (sent_state e (state_of p.client))) (m.links x).session.notes
   own = own_sent (state_of p.client) e (m.links x).session.notes (client_here t x p found).own
@@ -136,7 +136,7 @@ module _ {cfg : Config} {table : NamespaceTable} {b : Code} {hubs : ℕ → Opti
   -- THE SESSION IS CLOSED
   shut_off : (e : ClientRequest) → (m.links x).session.closed ≡ true → HasNoChannel e (m.links x).session
   shut_off (Subscribe c from) h = tt
-  shut_off (Unsubscribe c) h = seat.shut h c
+  shut_off (Unsubscribe c) h = address.shut h c
   shut_off (Publish c key body) h = tt
   shut_off (History c limit) h = tt
 
@@ -173,7 +173,7 @@ module _ {cfg : Config} {table : NamespaceTable} {b : Code} {hubs : ℕ → Opti
     no_channel (Subscribe c from) code h = tt
     no_channel (Unsubscribe c) code h =
         true_from_ne_false (is_off ((m.links x).session.subs c))
-        (λ on. let served = seat.served c on in let bad = bad_name (is_bad_channel c) code h in not_both
+        (λ on. let served = address.served c on in let bad = bad_name (is_bad_channel c) code h in not_both
         (is_bad_channel c) _ bad served)
       where
         not_both : (bad : Bool) (rest : Option ErrorCode) → bad ≡ true

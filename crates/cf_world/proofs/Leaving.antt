@@ -16,12 +16,12 @@ use Rattle.cf_machine.specs.IntervalMachine.{allows, happens, restarts}
 use Rattle.cf_machine.specs.World.{World, on_node}
 use Rattle.cf_world.specs.ClientTie.{IsOwn, LeavesAs, LeavesNode, ShowsClient, is_at, leave_node}
 use Rattle.cf_world.specs.HubCalls.{AtHub, Renewed}
-use Rattle.cf_world.specs.Tie.{AreTied, seats_of}
+use Rattle.cf_world.specs.Tie.{AreTied, addresses_of}
 use Rattle.cf_world.specs.declared.broker.WorldBroker.{WorldBroker as Code}
 use Rattle.cf_world.specs.declared.clients.Peer.{Peer}
 use Rattle.cf_world.specs.declared.clients.SessionAddress.{SessionAddress}
 use Rattle.cf_world.proofs.Breaking.{none-own}
-use Rattle.cf_world.proofs.NodesTie.{away_shows, restart_goes, seat_shows}
+use Rattle.cf_world.proofs.NodesTie.{away_shows, restart_goes, address_shows}
 use Rattle.cf_world.proofs.Served.{rests}
 
 -- each value that is kept is related to what it was
@@ -47,12 +47,12 @@ pub there : (o : Option Node) → is_some o ≡ true → (h : Node) × (o ≡ So
 there None h = absurd (cc)
 there (Some h) e = (h, refl)
 
-seat_left : (n : ℕ) (o p : Option Peer) → LeavesNode n o p
-    → option_and_then (λ (q : Peer). q.seat) p ≡ leave_node n (option_and_then (λ (q : Peer). q.seat) o)
-seat_left n None None h = refl
-seat_left n None (Some q) h = absurd h
-seat_left n (Some p) None h = absurd h
-seat_left n (Some p) (Some q) h = h.seat
+address_left : (n : ℕ) (o p : Option Peer) → LeavesNode n o p
+    → option_and_then (λ (q : Peer). q.address) p ≡ leave_node n (option_and_then (λ (q : Peer). q.address) o)
+address_left n None None h = refl
+address_left n None (Some q) h = absurd h
+address_left n (Some p) None h = absurd h
+address_left n (Some p) (Some q) h = h.address
 
 module _ {cfg : Config} {table : NamespaceTable} {b : Code} {hubs : ℕ → Option Node} {peers : List ℕ → Option Peer}
     {m : World}
@@ -60,7 +60,7 @@ module _ {cfg : Config} {table : NamespaceTable} {b : Code} {hubs : ℕ → Opti
   pub restart-nowhere : hubs n ≡ None → AreTied cfg table b hubs peers (happens cfg m (Restart n))
   restart-nowhere none = rests t (Restart n) (sym (t.nodes.nodes n) ∙ ap is_some none)
 
-  left : (l : ClientLink) (p q : Peer) (s : Option SessionAddress) → p.seat ≡ s → on_node n l.node ≡ is_at n s
+  left : (l : ClientLink) (p q : Peer) (s : Option SessionAddress) → p.address ≡ s → on_node n l.node ≡ is_at n s
       → LeavesAs n p q → ShowsClient (Some p) l → ShowsClient (Some q) (if on_node n l.node then breaks l else l)
   left l p q None e at h c =
       subst (λ (z : Bool). ShowsClient (Some q) (if z then breaks l else l)) (sym at)
@@ -70,7 +70,7 @@ module _ {cfg : Config} {table : NamespaceTable} {b : Code} {hubs : ℕ → Opti
       record {
         client = ap (λ (st : State). st.client) same ∙ c.client;
         connected = ap (λ (st : State). st.connected) same ∙ c.connected ∙ ap is_some e
-            ∙ sym (ap is_some (h.seat ∙ ap (leave_node n) e));
+            ∙ sym (ap is_some (h.address ∙ ap (leave_node n) e));
         own = subst (λ (st : State). All (IsOwn st) l.session.notes) (sym same) c.own;
       })
   left l p q (Some s) e at h c = by_value (s.node == n) refl
@@ -81,7 +81,8 @@ module _ {cfg : Config} {table : NamespaceTable} {b : Code} {hubs : ℕ → Opti
           h.state ∙ ap (λ (z : Option SessionAddress). if is_at n z then reconnected (state_of p.client)
           else state_of p.client) e ∙ ap (λ (z : Bool). if z then reconnected (state_of p.client)
           else state_of p.client) f in
-          let free : q.seat ≡ None = h.seat ∙ ap (leave_node n) e ∙ ap (λ (z : Bool). if z then None else Some s) f in
+          let free : q.address ≡ None =
+          h.address ∙ ap (leave_node n) e ∙ ap (λ (z : Bool). if z then None else Some s) f in
           subst (λ (z : Bool). ShowsClient (Some q) (if z then breaks l else l)) (sym (at ∙ f))
           (record {
             client = ap (λ (st : State). st.client) gone ∙ ap reconnects c.client;
@@ -93,8 +94,8 @@ module _ {cfg : Config} {table : NamespaceTable} {b : Code} {hubs : ℕ → Opti
           h.state ∙ ap (λ (z : Option SessionAddress). if is_at n z then reconnected (state_of p.client)
           else state_of p.client) e ∙ ap (λ (z : Bool). if z then reconnected (state_of p.client)
           else state_of p.client) f in
-          let stays : q.seat ≡ Some s =
-          h.seat ∙ ap (leave_node n) e ∙ ap (λ (z : Bool). if z then None else Some s) f in
+          let stays : q.address ≡ Some s =
+          h.address ∙ ap (leave_node n) e ∙ ap (λ (z : Bool). if z then None else Some s) f in
           subst (λ (z : Bool). ShowsClient (Some q) (if z then breaks l else l)) (sym (at ∙ f))
           (record {
             client = ap (λ (st : State). st.client) same ∙ c.client;
@@ -103,19 +104,19 @@ module _ {cfg : Config} {table : NamespaceTable} {b : Code} {hubs : ℕ → Opti
           })
 
   -- where a client sits is where its link is
-  sits : (x : List ℕ) (s : Option SessionAddress) → seats_of peers x ≡ s → on_node n (m.links x).node ≡ is_at n s
+  sits : (x : List ℕ) (s : Option SessionAddress) → addresses_of peers x ≡ s → on_node n (m.links x).node ≡ is_at n s
   sits x None e = ap (on_node n) (away_shows t.nodes x e).node
-  sits x (Some s) e = ap (on_node n) (seat_shows t.nodes x s e).at
+  sits x (Some s) e = ap (on_node n) (address_shows t.nodes x s e).at
 
   client_left : (x : List ℕ) (o p : Option Peer) → peers x ≡ o → LeavesNode n o p → ShowsClient o (m.links x)
       → ShowsClient p (if on_node n (m.links x).node then breaks (m.links x) else m.links x)
   client_left x None None e h c =
       subst (λ (z : Bool). ShowsClient None (if z then breaks (m.links x) else m.links x))
-      (sym (sits x None (ap (option_and_then (λ (q : Peer). q.seat)) e))) c
+      (sym (sits x None (ap (option_and_then (λ (q : Peer). q.address)) e))) c
   client_left x None (Some q) e h c = absurd h
   client_left x (Some p) None e h c = absurd h
   client_left x (Some p) (Some q) e h c =
-      left (m.links x) p q p.seat refl (sits x p.seat (ap (option_and_then (λ (q : Peer). q.seat)) e)) h c
+      left (m.links x) p q p.address refl (sits x p.address (ap (option_and_then (λ (q : Peer). q.address)) e)) h c
 
   pub restart-goes : (h : Node) → hubs n ≡ Some h → (hubs' : ℕ → Option Node) → AtHub n (Renewed n) hubs hubs'
       → (peers' : List ℕ → Option Peer)
@@ -129,8 +130,8 @@ module _ {cfg : Config} {table : NamespaceTable} {b : Code} {hubs : ℕ → Opti
       let gone : AreTied cfg table b hubs' peers' (restarts n m) = record {
         namespaces = t.namespaces;
         broker = t.broker;
-        nodes = restart_goes t.nodes n h one.hub was hubs' one.now one.others fresh (seats_of peers')
-            (λ y. seat_left n (peers y) (peers' y) (leaves y));
+        nodes = restart_goes t.nodes n h one.hub was hubs' one.now one.others fresh (addresses_of peers')
+            (λ y. address_left n (peers y) (peers' y) (leaves y));
         clients = λ y. client_left y (peers y) (peers' y) refl (leaves y) (t.clients y);
       } in
       rw yes' gone

@@ -23,80 +23,80 @@ pub off_is : (s : Sub) → is_off s ≡ true → s ≡ Off
 off_is Off h = refl
 off_is (Asked id since k) h = absurd (cc)
 off_is (Ready id was x k) h = absurd (cc)
-off_is (On p mark) h = absurd (cc)
+off_is (On p behind_at) h = absurd (cc)
 
 module _ (lists : Lists) (c : List ℕ) where
   off_same : (s : Subscription Held) (s' : Sub) → AlikeSub (IsKept lists c) s s' → is_off s ≡ is_off s'
   off_same Off Off e = refl
   off_same (Asked id since k) (Asked id' since' k') e = refl
   off_same (Ready id was x k) (Ready id' was' x' k') e = refl
-  off_same (On p mark) (On p' mark') e = refl
+  off_same (On p behind_at) (On p' behind_at') e = refl
   off_same Off (Asked id' since' k') e = absurd e
   off_same Off (Ready id' was' x' k') e = absurd e
-  off_same Off (On p' mark') e = absurd e
+  off_same Off (On p' behind_at') e = absurd e
   off_same (Asked id since k) Off e = absurd e
   off_same (Asked id since k) (Ready id' was' x' k') e = absurd e
-  off_same (Asked id since k) (On p' mark') e = absurd e
+  off_same (Asked id since k) (On p' behind_at') e = absurd e
   off_same (Ready id was x k) Off e = absurd e
   off_same (Ready id was x k) (Asked id' since' k') e = absurd e
-  off_same (Ready id was x k) (On p' mark') e = absurd e
-  off_same (On p mark) Off e = absurd e
-  off_same (On p mark) (Asked id' since' k') e = absurd e
-  off_same (On p mark) (Ready id' was' x' k') e = absurd e
+  off_same (Ready id was x k) (On p' behind_at') e = absurd e
+  off_same (On p behind_at) Off e = absurd e
+  off_same (On p behind_at) (Asked id' since' k') e = absurd e
+  off_same (On p behind_at) (Ready id' was' x' k') e = absurd e
 
   asked_same : (s : Subscription Held) (s' : Sub) → AlikeSub (IsKept lists c) s s' → is_asked s ≡ is_asked s'
   asked_same Off Off e = refl
   asked_same (Asked id since k) (Asked id' since' k') e = refl
   asked_same (Ready id was x k) (Ready id' was' x' k') e = refl
-  asked_same (On p mark) (On p' mark') e = refl
+  asked_same (On p behind_at) (On p' behind_at') e = refl
   asked_same Off (Asked id' since' k') e = absurd e
   asked_same Off (Ready id' was' x' k') e = absurd e
-  asked_same Off (On p' mark') e = absurd e
+  asked_same Off (On p' behind_at') e = absurd e
   asked_same (Asked id since k) Off e = absurd e
   asked_same (Asked id since k) (Ready id' was' x' k') e = absurd e
-  asked_same (Asked id since k) (On p' mark') e = absurd e
+  asked_same (Asked id since k) (On p' behind_at') e = absurd e
   asked_same (Ready id was x k) Off e = absurd e
   asked_same (Ready id was x k) (Asked id' since' k') e = absurd e
-  asked_same (Ready id was x k) (On p' mark') e = absurd e
-  asked_same (On p mark) Off e = absurd e
-  asked_same (On p mark) (Asked id' since' k') e = absurd e
-  asked_same (On p mark) (Ready id' was' x' k') e = absurd e
+  asked_same (Ready id was x k) (On p' behind_at') e = absurd e
+  asked_same (On p behind_at) Off e = absurd e
+  asked_same (On p behind_at) (Asked id' since' k') e = absurd e
+  asked_same (On p behind_at) (Ready id' was' x' k') e = absurd e
 
   ready_same : (s : Subscription Held) (s' : Sub) → AlikeSub (IsKept lists c) s s' → is_ready s ≡ is_ready s'
   ready_same Off Off e = refl
   ready_same (Asked id since k) (Asked id' since' k') e = refl
   ready_same (Ready id was x k) (Ready id' was' x' k') e = refl
-  ready_same (On p mark) (On p' mark') e = refl
+  ready_same (On p behind_at) (On p' behind_at') e = refl
   ready_same Off (Asked id' since' k') e = absurd e
   ready_same Off (Ready id' was' x' k') e = absurd e
-  ready_same Off (On p' mark') e = absurd e
+  ready_same Off (On p' behind_at') e = absurd e
   ready_same (Asked id since k) Off e = absurd e
   ready_same (Asked id since k) (Ready id' was' x' k') e = absurd e
-  ready_same (Asked id since k) (On p' mark') e = absurd e
+  ready_same (Asked id since k) (On p' behind_at') e = absurd e
   ready_same (Ready id was x k) Off e = absurd e
   ready_same (Ready id was x k) (Asked id' since' k') e = absurd e
-  ready_same (Ready id was x k) (On p' mark') e = absurd e
-  ready_same (On p mark) Off e = absurd e
-  ready_same (On p mark) (Asked id' since' k') e = absurd e
-  ready_same (On p mark) (Ready id' was' x' k') e = absurd e
+  ready_same (Ready id was x k) (On p' behind_at') e = absurd e
+  ready_same (On p behind_at) Off e = absurd e
+  ready_same (On p behind_at) (Asked id' since' k') e = absurd e
+  ready_same (On p behind_at) (Ready id' was' x' k') e = absurd e
 
   waits_same : (s : Subscription Held) (s' : Sub) → AlikeSub (IsKept lists c) s s' → is_unfinished s ≡ is_unfinished s'
   waits_same Off Off e = refl
   waits_same (Asked id since k) (Asked id' since' k') e = refl
   waits_same (Ready id was x k) (Ready id' was' x' k') e = refl
-  waits_same (On p mark) (On p' mark') e = refl
+  waits_same (On p behind_at) (On p' behind_at') e = refl
   waits_same Off (Asked id' since' k') e = absurd e
   waits_same Off (Ready id' was' x' k') e = absurd e
-  waits_same Off (On p' mark') e = absurd e
+  waits_same Off (On p' behind_at') e = absurd e
   waits_same (Asked id since k) Off e = absurd e
   waits_same (Asked id since k) (Ready id' was' x' k') e = absurd e
-  waits_same (Asked id since k) (On p' mark') e = absurd e
+  waits_same (Asked id since k) (On p' behind_at') e = absurd e
   waits_same (Ready id was x k) Off e = absurd e
   waits_same (Ready id was x k) (Asked id' since' k') e = absurd e
-  waits_same (Ready id was x k) (On p' mark') e = absurd e
-  waits_same (On p mark) Off e = absurd e
-  waits_same (On p mark) (Asked id' since' k') e = absurd e
-  waits_same (On p mark) (Ready id' was' x' k') e = absurd e
+  waits_same (Ready id was x k) (On p' behind_at') e = absurd e
+  waits_same (On p behind_at) Off e = absurd e
+  waits_same (On p behind_at) (Asked id' since' k') e = absurd e
+  waits_same (On p behind_at) (Ready id' was' x' k') e = absurd e
 
   abbrev answer : Option Position → Answer
   answer o = record { since = o }
@@ -105,19 +105,19 @@ module _ (lists : Lists) (c : List ℕ) where
   asks_same Off Off e = refl
   asks_same (Asked id since k) (Asked id' since' k') e = ap (λ (o : Option Position). Some (answer o)) e.1
   asks_same (Ready id was x k) (Ready id' was' x' k') e = refl
-  asks_same (On p mark) (On p' mark') e = refl
+  asks_same (On p behind_at) (On p' behind_at') e = refl
   asks_same Off (Asked id' since' k') e = absurd e
   asks_same Off (Ready id' was' x' k') e = absurd e
-  asks_same Off (On p' mark') e = absurd e
+  asks_same Off (On p' behind_at') e = absurd e
   asks_same (Asked id since k) Off e = absurd e
   asks_same (Asked id since k) (Ready id' was' x' k') e = absurd e
-  asks_same (Asked id since k) (On p' mark') e = absurd e
+  asks_same (Asked id since k) (On p' behind_at') e = absurd e
   asks_same (Ready id was x k) Off e = absurd e
   asks_same (Ready id was x k) (Asked id' since' k') e = absurd e
-  asks_same (Ready id was x k) (On p' mark') e = absurd e
-  asks_same (On p mark) Off e = absurd e
-  asks_same (On p mark) (Asked id' since' k') e = absurd e
-  asks_same (On p mark) (Ready id' was' x' k') e = absurd e
+  asks_same (Ready id was x k) (On p' behind_at') e = absurd e
+  asks_same (On p behind_at) Off e = absurd e
+  asks_same (On p behind_at) (Asked id' since' k') e = absurd e
+  asks_same (On p behind_at) (Ready id' was' x' k') e = absurd e
 
 -- ---- the session of a number, which is there
 

@@ -33,10 +33,11 @@ use Rattle.cf_machine.specs.PublicationList.{Broker}
 use Rattle.cf_machine.specs.Session.{Session, Sub, Words}
 use Rattle.cf_machine.specs.World.{World, broker_with, link_with, on_node, with_at}
 use Rattle.cf_world.specs.ClientTie.{leave_node}
-use Rattle.cf_world.specs.NodesTie.{IsAway, IsNode, IsSeated, IsShutOff, MayAsk, ShowsLink, ShowsNodes, name_of, seated}
+use Rattle.cf_world.specs.NodesTie.{IsAway, IsNode, IsAtAddress, IsShutOff, MayAsk, ShowsLink, ShowsNodes, name_of}
+use Rattle.cf_world.specs.NodesTie.{session_at}
 use Rattle.cf_world.specs.NodesTie.{session_in}
 use Rattle.cf_world.specs.declared.clients.SessionAddress.{SessionAddress}
-use Rattle.cf_world.proofs.Counts.{Seats}
+use Rattle.cf_world.proofs.Counts.{Addresses}
 use Rattle.cf_world.proofs.Ends.{Keeps, comes_keeps}
 use Rattle.cf_world.proofs.Looking.{attached, off_at}
 use Rattle.cf_machine.proofs.Names.{itself, text_tells, with-all, with-both, with-other, with-same}
@@ -45,11 +46,11 @@ use Rattle.cf_machine.proofs.Names.{itself, text_tells, with-all, with-both, wit
 id_there : (n boot counter : ℕ) → 1 ≤ length (machine_id n boot counter)
 id_there n boot counter = rw (length-append (decimal n) (45 ∷ (decimal boot ++ (45 ∷ decimal counter)))) (omega arith)
 
-abbrev seat_of : ℕ → ℕ → SessionAddress
-seat_of n k = record { node = n; session = k }
+abbrev address_of : ℕ → ℕ → SessionAddress
+address_of n k = record { node = n; session = k }
 
-seats_are : (o s : SessionAddress) → o.node ≡ s.node → o.session ≡ s.session → o ≡ s
-seats_are o s e f = λ i. record { node = e i; session = f i }
+addresses_are : (o s : SessionAddress) → o.node ≡ s.node → o.session ≡ s.session → o ≡ s
+addresses_are o s e f = λ i. record { node = e i; session = f i }
 
 -- ---- names and numbers
 
@@ -98,7 +99,7 @@ number_is : (n : ℕ) (v : Option SessionAddress) (k : ℕ) → number_at n v �
     → v ≡ Some (record { node = n; session = k })
 number_is n None k e = absurd (none-some k e)
 number_is n (Some s) k e = elim (eqb_tells s.node n) [
-  | inl p ↦ ap Some (seats_are s (record { node = n; session = k }) p.1
+  | inl p ↦ ap Some (addresses_are s (record { node = n; session = k }) p.1
       (same_Some s.session k (sym (ap (λ (b : Bool). if b then Some s.session else None) p.0) ∙ e)))
   | inr p ↦ absurd (none-some k (sym (ap (λ (b : Bool). if b then Some s.session else None) p.0) ∙ e))
 ]
@@ -158,7 +159,8 @@ pub record LinkGoes (table : NamespaceTable) (old new : ClientLink) : Type 0 whe
 
 -- a session of it that begins nothing
 pub session_moves : {table : NamespaceTable} {lists : Lists} {o : Option Attached} {n : ℕ} {l : ClientLink}
-    → IsSeated table lists o n l → (g : Session → Session) → Keeps g → LinkGoes table l (with_session (g l.session) l)
+    → IsAtAddress table lists o n l → (g : Session → Session) → Keeps g
+    → LinkGoes table l (with_session (g l.session) l)
 session_moves {l = l} s g keeps = record {
   node = refl;
   name = refl;
@@ -172,7 +174,7 @@ session_moves {l = l} s g keeps = record {
 
 -- a link whose session does the same, with whatever else of the client
 pub link_goes : {table : NamespaceTable} {lists : Lists} {o : Option Attached} {n : ℕ} {l : ClientLink}
-    → IsSeated table lists o n l → (l' : ClientLink) → l'.node ≡ l.node → l'.name ≡ l.name → l'.way ≡ [] → l'.up ≡ []
+    → IsAtAddress table lists o n l → (l' : ClientLink) → l'.node ≡ l.node → l'.name ≡ l.name → l'.way ≡ [] → l'.up ≡ []
     → l'.channels ≡ l.channels → (g : Session → Session) → Keeps g → l'.session ≡ g l.session → LinkGoes table l l'
 link_goes {l = l} s l' node name way up channels g keeps session = record {
   node = node;
@@ -188,7 +190,7 @@ link_goes {l = l} s l' node name way up channels g keeps session = record {
 
 -- a link whose session asks for a channel
 pub link_asks : {table : NamespaceTable} {lists : Lists} {o : Option Attached} {n : ℕ} {l : ClientLink}
-    → IsSeated table lists o n l → (l' : ClientLink) → l'.node ≡ l.node → l'.name ≡ l.name → l'.way ≡ [] → l'.up ≡ []
+    → IsAtAddress table lists o n l → (l' : ClientLink) → l'.node ≡ l.node → l'.name ≡ l.name → l'.way ≡ [] → l'.up ≡ []
     → (w : Words) (c : List ℕ) (id : ℕ) (since : Option Position) → l'.channels ≡ and_also c l.channels
     → l'.session ≡ begins w c id since l.session → l.session.closed ≡ false → MayAsk table c → LinkGoes table l l'
 link_asks {table = table} {l = l} s l' node name way up w c id since channels session is_open set_up = record {
@@ -217,10 +219,10 @@ link_asks {table = table} {l = l} s l' node name way up w c id since channels se
           ∙ h)
     ]
 
-pub seated_goes : {table : NamespaceTable} {lists : Lists} {o o' : Option Attached} {n : ℕ} {l l' : ClientLink}
-    → IsSeated table lists o n l → LinkGoes table l l' → name_of o' ≡ name_of o → SaysAt lists o' l'.session
-    → IsSeated table lists o' n l'
-seated_goes s g name says = record {
+pub at_address_goes : {table : NamespaceTable} {lists : Lists} {o o' : Option Attached} {n : ℕ} {l l' : ClientLink}
+    → IsAtAddress table lists o n l → LinkGoes table l l' → name_of o' ≡ name_of o → SaysAt lists o' l'.session
+    → IsAtAddress table lists o' n l'
+at_address_goes s g name says = record {
   at = g.node ∙ s.at;
   name = name ∙ s.name ∙ ap Some (sym g.name);
   named = subst (λ (z : List ℕ). 1 ≤ length z) (sym g.name) s.named;
@@ -249,29 +251,29 @@ leaves_off lists (Some a) b c e h = record {
     off s Off f g = g
     off s (Asked id since k) f g = absurd (cc)
     off s (Ready id was r k) f g = absurd (cc)
-    off s (On p mark) f g = absurd (cc)
+    off s (On p behind_at) f g = absurd (cc)
 
-seated_stays : {table : NamespaceTable} {lists : Lists} {o o' : Option Attached} {n : ℕ} {l : ClientLink} → o' ≡ o
-    → IsSeated table lists o n l → IsSeated table lists o' n l
-seated_stays {table = table} {lists = lists} {n = n} {l = l} e s =
-    subst (λ (z : Option Attached). IsSeated table lists z n l) (sym e) s
+at_address_stays : {table : NamespaceTable} {lists : Lists} {o o' : Option Attached} {n : ℕ} {l : ClientLink} → o' ≡ o
+    → IsAtAddress table lists o n l → IsAtAddress table lists o' n l
+at_address_stays {table = table} {lists = lists} {n = n} {l = l} e s =
+    subst (λ (z : Option Attached). IsAtAddress table lists z n l) (sym e) s
 
-module _ {cfg : Config} {hubs : ℕ → Option Node} {seats : List ℕ → Option SessionAddress} {m : World}
-    (t : ShowsNodes cfg hubs seats m) where
-  -- the seat of a client
-  pub seat_shows : (x : List ℕ) (s : SessionAddress) → seats x ≡ Some s
-      → IsSeated cfg.namespaces m.broker.lists (seated hubs s) s.node (m.links x)
-  seat_shows x s e =
+module _ {cfg : Config} {hubs : ℕ → Option Node} {addresses : List ℕ → Option SessionAddress} {m : World}
+    (t : ShowsNodes cfg hubs addresses m) where
+  -- the address of a client
+  pub address_shows : (x : List ℕ) (s : SessionAddress) → addresses x ≡ Some s
+      → IsAtAddress cfg.namespaces m.broker.lists (session_at hubs s) s.node (m.links x)
+  address_shows x s e =
       subst (λ (o : Option SessionAddress). ShowsLink cfg.namespaces m.broker.lists hubs o (m.links x)) e (t.links x)
 
-  pub away_shows : (x : List ℕ) → seats x ≡ None → IsAway (m.links x)
+  pub away_shows : (x : List ℕ) → addresses x ≡ None → IsAway (m.links x)
   away_shows x e =
       subst (λ (o : Option SessionAddress). ShowsLink cfg.namespaces m.broker.lists hubs o (m.links x)) e (t.links x)
 
   -- the same of a machine's world with the same parts
   pub nodes_same : (m' : World) → ((n : ℕ) → m'.boots n ≡ m.boots n) → ((n : ℕ) → m'.counters n ≡ m.counters n)
       → m'.clients ≡ m.clients → m'.broker.lists ≡ m.broker.lists
-      → ((x : List ℕ) → m'.links x ≡ m.links x) → ShowsNodes cfg hubs seats m'
+      → ((x : List ℕ) → m'.links x ≡ m.links x) → ShowsNodes cfg hubs addresses m'
   nodes_same m' boots counters clients lists links = record {
     nodes = t.nodes;
     hub = λ n h e. let was = t.hub n h e in
@@ -282,8 +284,8 @@ module _ {cfg : Config} {hubs : ℕ → Option Node} {seats : List ℕ → Optio
           few = was.few;
           refused = was.refused;
         };
-    links = λ x. subst (λ (z : Lists). ShowsLink cfg.namespaces z hubs (seats x) (m'.links x)) (sym lists)
-        (subst (λ (l : ClientLink). ShowsLink cfg.namespaces m.broker.lists hubs (seats x) l) (sym (links x))
+    links = λ x. subst (λ (z : Lists). ShowsLink cfg.namespaces z hubs (addresses x) (m'.links x)) (sym lists)
+        (subst (λ (l : ClientLink). ShowsLink cfg.namespaces m.broker.lists hubs (addresses x) l) (sym (links x))
         (t.links x));
     apart = t.apart;
     onto = t.onto;
@@ -293,12 +295,13 @@ module _ {cfg : Config} {hubs : ℕ → Option Node} {seats : List ℕ → Optio
 
   -- the publication lists grow
   pub lists_grow : ((old new : Lists) (a : Texts) (b : Session) → Grown old new → SaysSession old a b
-      → SaysSession new a b) → (b : Broker) → Grown m.broker.lists b.lists → ShowsNodes cfg hubs seats (broker_with b m)
+      → SaysSession new a b) → (b : Broker) → Grown m.broker.lists b.lists
+      → ShowsNodes cfg hubs addresses (broker_with b m)
   lists_grow grows b g = record {
     nodes = t.nodes;
     hub = λ n h e. let was = t.hub n h e in
         record { node = was.node; boot = was.boot; used = was.used; few = was.few; refused = was.refused };
-    links = λ x. by_seat (seats x) (m.links x) (t.links x);
+    links = λ x. by_address (addresses x) (m.links x) (t.links x);
     apart = t.apart;
     onto = t.onto;
     among = t.among;
@@ -309,15 +312,15 @@ module _ {cfg : Config} {hubs : ℕ → Option Node} {seats : List ℕ → Optio
       at_grows None s h = absurd h
       at_grows (Some a) s h = grows m.broker.lists b.lists a.state s g h
 
-      by_seat : (o : Option SessionAddress) (l : ClientLink) → ShowsLink cfg.namespaces m.broker.lists hubs o l
+      by_address : (o : Option SessionAddress) (l : ClientLink) → ShowsLink cfg.namespaces m.broker.lists hubs o l
           → ShowsLink cfg.namespaces b.lists hubs o l
-      by_seat None l h = h
-      by_seat (Some s) l h =
+      by_address None l h = h
+      by_address (Some s) l h =
           record {
             at = h.at;
             name = h.name;
             named = h.named;
-            says = at_grows (seated hubs s) l.session h.says;
+            says = at_grows (session_at hubs s) l.session h.says;
             way = h.way;
             up = h.up;
             once = h.once;
@@ -355,22 +358,23 @@ module _ {cfg : Config} {hubs : ℕ → Option Node} {seats : List ℕ → Optio
 
     -- where a session of hub n is there it was there
     still_onto : ((k : ℕ) → is_some (attached_at h' k) ≡ is_some (attached_at h k)) → (j k : ℕ)
-        → is_some (session_in (hubs' j) k) ≡ true → (x : List ℕ) × (seats x ≡ Some (record { node = j; session = k }))
+        → is_some (session_in (hubs' j) k) ≡ true → (x : List ℕ)
+        × (addresses x ≡ Some (record { node = j; session = k }))
     still_onto there j =
         hub_by (λ i o. (k : ℕ) → is_some (session_in o k) ≡ true → (x : List ℕ)
-        × (seats x ≡ Some (record { node = i; session = k })))
+        × (addresses x ≡ Some (record { node = i; session = k })))
         (λ k e. t.onto n k (ap (λ (o : Option Node). is_some (session_in o k)) was ∙ sym (there k) ∙ e))
         (λ i ne k e. t.onto i k e) j
 
-    -- a seat of another node
-    pub elsewhere : (s : SessionAddress) → s.node ≢ n → seated hubs' s ≡ seated hubs s
+    -- an address of another node
+    pub elsewhere : (s : SessionAddress) → s.node ≢ n → session_at hubs' s ≡ session_at hubs s
     elsewhere s ne = ap (λ (o : Option Node). session_in o s.session) (others s.node ne)
 
-    pub seat_was : (s : SessionAddress) → s.node ≡ n → seated hubs s ≡ attached_at h s.session
-    seat_was s e = ap (λ (o : Option Node). session_in o s.session) (ap hubs e ∙ was)
+    pub address_was : (s : SessionAddress) → s.node ≡ n → session_at hubs s ≡ attached_at h s.session
+    address_was s e = ap (λ (o : Option Node). session_in o s.session) (ap hubs e ∙ was)
 
-    pub seat_now : (s : SessionAddress) → s.node ≡ n → seated hubs' s ≡ attached_at h' s.session
-    seat_now s e = ap (λ (o : Option Node). session_in o s.session) (ap hubs' e ∙ now)
+    pub address_now : (s : SessionAddress) → s.node ≡ n → session_at hubs' s ≡ attached_at h' s.session
+    address_now s e = ap (λ (o : Option Node). session_in o s.session) (ap hubs' e ∙ now)
 
     module _ (same : SameNode h h') (none : h'.refused ≡ 0)
         (names : (k : ℕ) → name_of (attached_at h' k) ≡ name_of (attached_at h k)) where
@@ -388,8 +392,8 @@ module _ {cfg : Config} {hubs : ℕ → Option Node} {seats : List ℕ → Optio
 
       -- the links are these
       hub_goes : (links : List ℕ → ClientLink) → ((x : List ℕ)
-          → ShowsLink cfg.namespaces m.broker.lists hubs' (seats x) (links x))
-          → ShowsNodes cfg hubs' seats (record m { links = links })
+          → ShowsLink cfg.namespaces m.broker.lists hubs' (addresses x) (links x))
+          → ShowsNodes cfg hubs' addresses (record m { links = links })
       hub_goes links shows = record {
         nodes = same_nodes;
         hub = same_hubs (record m { links = links }) (node_is (record m { links = links }) refl refl) (λ j ne. refl)
@@ -402,107 +406,110 @@ module _ {cfg : Config} {hubs : ℕ → Option Node} {seats : List ℕ → Optio
       }
 
       -- its sessions stay
-      pub still_goes : ((k : ℕ) → attached_at h' k ≡ attached_at h k) → ShowsNodes cfg hubs' seats m
-      still_goes stay = hub_goes m.links (λ x. by_seat (seats x) (m.links x) (t.links x))
+      pub still_goes : ((k : ℕ) → attached_at h' k ≡ attached_at h k) → ShowsNodes cfg hubs' addresses m
+      still_goes stay = hub_goes m.links (λ x. by_address (addresses x) (m.links x) (t.links x))
         where
-          by_seat : (o : Option SessionAddress) (l : ClientLink) → ShowsLink cfg.namespaces m.broker.lists hubs o l
+          by_address : (o : Option SessionAddress) (l : ClientLink) → ShowsLink cfg.namespaces m.broker.lists hubs o l
               → ShowsLink cfg.namespaces m.broker.lists hubs' o l
-          by_seat None l g = g
-          by_seat (Some s) l g = elim (eqb_tells s.node n) [
-            | inl is ↦ seated_stays (seat_now s is.1 ∙ stay s.session ∙ sym (seat_was s is.1)) g
-            | inr is ↦ seated_stays (elsewhere s is.1) g
+          by_address None l g = g
+          by_address (Some s) l g = elim (eqb_tells s.node n) [
+            | inl is ↦ at_address_stays (address_now s is.1 ∙ stay s.session ∙ sym (address_was s is.1)) g
+            | inr is ↦ at_address_stays (elsewhere s is.1) g
           ]
 
       -- ---- a publication is delivered
 
       pub deliver_goes : CallsAreAlike m.broker.lists → (c e : List ℕ) (p : Placed) → IsListed m.broker.lists c e p
           → Delivers c e p h h'
-          → ShowsNodes cfg hubs' seats (record m {
+          → ShowsNodes cfg hubs' addresses (record m {
             links = λ x. if on_node n (m.links x).node then with_session
                 (comes (spoken m.broker.lists) c (at_offset e p) (m.links x).session) (m.links x) else m.links x;
           })
       deliver_goes calls c e p listed d =
           hub_goes (λ x. if on_node n (m.links x).node then with_session
           (comes (spoken m.broker.lists) c (at_offset e p) (m.links x).session) (m.links x) else m.links x)
-          (λ x. by_seat x (seats x) (m.links x) (t.links x))
+          (λ x. by_address x (addresses x) (m.links x) (t.links x))
         where
-          here : (s : SessionAddress) (l : ClientLink) → IsSeated cfg.namespaces m.broker.lists (seated hubs s) s.node l
-              → s.node ≡ n → IsSeated cfg.namespaces m.broker.lists (seated hubs' s) s.node
+          here : (s : SessionAddress) (l : ClientLink) → IsAtAddress cfg.namespaces m.broker.lists (session_at hubs s)
+              s.node l
+              → s.node ≡ n → IsAtAddress cfg.namespaces m.broker.lists (session_at hubs' s) s.node
               (with_session (comes (spoken m.broker.lists) c (at_offset e p) l.session) l)
           here s l g is =
-              seated_goes g (session_moves g (comes (spoken m.broker.lists) c (at_offset e p))
+              at_address_goes g (session_moves g (comes (spoken m.broker.lists) c (at_offset e p))
               (comes_keeps (spoken m.broker.lists) c (at_offset e p)))
-              (ap name_of (seat_now s is) ∙ names s.session ∙ sym (ap name_of (seat_was s is)))
+              (ap name_of (address_now s is) ∙ names s.session ∙ sym (ap name_of (address_was s is)))
               (subst (λ (o : Option Attached). SaysAt m.broker.lists o
-              (comes (spoken m.broker.lists) c (at_offset e p) l.session)) (sym (seat_now s is))
+              (comes (spoken m.broker.lists) c (at_offset e p) l.session)) (sym (address_now s is))
               (calls.delivers c e p h h' listed d none s.session l.session
-              (subst (λ (o : Option Attached). SaysAt m.broker.lists o l.session) (seat_was s is) g.says)))
+              (subst (λ (o : Option Attached). SaysAt m.broker.lists o l.session) (address_was s is) g.says)))
 
-          by_seat : (x : List ℕ) (o : Option SessionAddress) (l : ClientLink)
+          by_address : (x : List ℕ) (o : Option SessionAddress) (l : ClientLink)
               → ShowsLink cfg.namespaces m.broker.lists hubs o l
               → ShowsLink cfg.namespaces m.broker.lists hubs' o
               (if on_node n l.node then with_session (comes (spoken m.broker.lists) c (at_offset e p) l.session) l
               else l)
-          by_seat x None l g =
+          by_address x None l g =
               subst (λ (b : Bool). IsAway (if b then with_session
               (comes (spoken m.broker.lists) c (at_offset e p) l.session) l else l)) (sym (ap (on_node n) g.node)) g
-          by_seat x (Some s) l g = elim (eqb_tells s.node n) [
+          by_address x (Some s) l g = elim (eqb_tells s.node n) [
             | inl is ↦
-                subst (λ (b : Bool). IsSeated cfg.namespaces m.broker.lists (seated hubs' s) s.node
+                subst (λ (b : Bool). IsAtAddress cfg.namespaces m.broker.lists (session_at hubs' s) s.node
                 (if b then with_session (comes (spoken m.broker.lists) c (at_offset e p) l.session) l else l))
                 (sym (ap (on_node n) g.at ∙ is.0)) (here s l g is.1)
             | inr is ↦
-                subst (λ (b : Bool). IsSeated cfg.namespaces m.broker.lists (seated hubs' s) s.node
+                subst (λ (b : Bool). IsAtAddress cfg.namespaces m.broker.lists (session_at hubs' s) s.node
                 (if b then with_session (comes (spoken m.broker.lists) c (at_offset e p) l.session) l else l))
                 (sym (ap (on_node n) g.at ∙ is.0))
-                (seated_stays (elsewhere s is.1) g)
+                (at_address_stays (elsewhere s is.1) g)
           ]
 
     -- ---- one session goes on, with its link
 
-    pub session_goes : (x : List ℕ) (s : SessionAddress) → seats x ≡ Some s → s.node ≡ n → SameNode h h'
+    pub session_goes : (x : List ℕ) (s : SessionAddress) → addresses x ≡ Some s → s.node ≡ n → SameNode h h'
         → h'.refused ≡ 0 → OthersStay s.session h h' → name_of (attached_at h' s.session)
         ≡ name_of (attached_at h s.session)
         → (l : ClientLink) → LinkGoes cfg.namespaces (m.links x) l
         → (SaysAt m.broker.lists (attached_at h s.session) (m.links x).session
         → SaysAt m.broker.lists (attached_at h' s.session) l.session)
-        → ShowsNodes cfg hubs' seats (link_with x l m)
+        → ShowsNodes cfg hubs' addresses (link_with x l m)
     session_goes x s sits is same none stay name l goes says =
         hub_goes same none (names_by s.session h h' name stay) (with m.links x l) shows
       where
-        mine : ShowsLink cfg.namespaces m.broker.lists hubs' (seats x) l
+        mine : ShowsLink cfg.namespaces m.broker.lists hubs' (addresses x) l
         mine =
-            let g = seat_shows x s sits in
+            let g = address_shows x s sits in
             subst (λ (o : Option SessionAddress). ShowsLink cfg.namespaces m.broker.lists hubs' o l) (sym sits)
-            (seated_goes g goes (ap name_of (seat_now s is) ∙ name ∙ sym (ap name_of (seat_was s is)))
-            (subst (λ (o : Option Attached). SaysAt m.broker.lists o l.session) (sym (seat_now s is))
-            (says (subst (λ (o : Option Attached). SaysAt m.broker.lists o (m.links x).session) (seat_was s is)
+            (at_address_goes g goes (ap name_of (address_now s is) ∙ name ∙ sym (ap name_of (address_was s is)))
+            (subst (λ (o : Option Attached). SaysAt m.broker.lists o l.session) (sym (address_now s is))
+            (says (subst (λ (o : Option Attached). SaysAt m.broker.lists o (m.links x).session) (address_was s is)
             g.says))))
 
-        -- another client's seat is another one
-        apart : (y : List ℕ) (o : SessionAddress) → y ≢ x → seats y ≡ Some o → o.node ≡ n → o.session ≢ s.session
-        apart y o ne e f same_session = ne (t.apart y x s (e ∙ ap Some (seats_are o s (f ∙ sym is) same_session)) sits)
+        -- another client's address is another one
+        apart : (y : List ℕ) (o : SessionAddress) → y ≢ x → addresses y ≡ Some o → o.node ≡ n → o.session ≢ s.session
+        apart y o ne e f same_session =
+            ne (t.apart y x s (e ∙ ap Some (addresses_are o s (f ∙ sym is) same_session)) sits)
 
-        yours : (y : List ℕ) → y ≢ x → (o : Option SessionAddress) → seats y ≡ o
+        yours : (y : List ℕ) → y ≢ x → (o : Option SessionAddress) → addresses y ≡ o
             → ShowsLink cfg.namespaces m.broker.lists hubs o (m.links y)
             → ShowsLink cfg.namespaces m.broker.lists hubs' o (m.links y)
         yours y ne None e g = g
         yours y ne (Some o) e g = elim (eqb_tells o.node n) [
-          | inl f ↦ seated_stays (seat_now o f.1 ∙ stay o.session (apart y o ne e f.1) ∙ sym (seat_was o f.1)) g
-          | inr f ↦ seated_stays (elsewhere o f.1) g
+          | inl f ↦ at_address_stays (address_now o f.1 ∙ stay o.session (apart y o ne e f.1) ∙ sym (address_was o f.1))
+              g
+          | inr f ↦ at_address_stays (elsewhere o f.1) g
         ]
 
-        shows : (y : List ℕ) → ShowsLink cfg.namespaces m.broker.lists hubs' (seats y) (with m.links x l y)
-        shows y = with-all (λ z k. ShowsLink cfg.namespaces m.broker.lists hubs' (seats z) k) m.links x l mine
-            (λ z ne. yours z ne (seats z) refl (t.links z)) y
+        shows : (y : List ℕ) → ShowsLink cfg.namespaces m.broker.lists hubs' (addresses y) (with m.links x l y)
+        shows y = with-all (λ z k. ShowsLink cfg.namespaces m.broker.lists hubs' (addresses z) k) m.links x l mine
+            (λ z ne. yours z ne (addresses z) refl (t.links z)) y
 
     -- ---- a session comes, or goes
 
-    module _ (x : List ℕ) (seats' : List ℕ → Option SessionAddress) where
-      pub attach_goes : CallsAreAlike m.broker.lists → (k now_at : ℕ) (user : List ℕ) → seats x ≡ None
+    module _ (x : List ℕ) (addresses' : List ℕ → Option SessionAddress) where
+      pub attach_goes : CallsAreAlike m.broker.lists → (k now_at : ℕ) (user : List ℕ) → addresses x ≡ None
           → attached_at h k ≡ None → h.used ≢ largest → Opens k user now_at h h'
-          → ((y : List ℕ) → seats' y ≡ with seats x (Some (record { node = n; session = k })) y)
-          → ShowsNodes cfg hubs' seats' (connects x n m)
+          → ((y : List ℕ) → addresses' y ≡ with addresses x (Some (record { node = n; session = k })) y)
+          → ShowsNodes cfg hubs' addresses' (connects x n m)
       attach_goes calls k now_at user none free not_last o sits = record {
         nodes = same_nodes;
         hub = same_hubs (connects x n m) is (λ j ne. refl) (λ j ne. other_count j ne);
@@ -533,20 +540,21 @@ module _ {cfg : Config} {hubs : ℕ → Option Node} {seats : List ℕ → Optio
             refused = o.refused ∙ old.refused;
           }
 
-          there : (y : List ℕ) (s : SessionAddress) → seats y ≡ Some s → s.node ≡ n → s.session ≢ k
+          there : (y : List ℕ) (s : SessionAddress) → addresses y ≡ Some s → s.node ≡ n → s.session ≢ k
           there y s e f g =
-              let shown = seat_shows y s e in
+              let shown = address_shows y s e in
               nobody m.broker.lists (attached_at h s.session) (ap (attached_at h) g ∙ free) (m.links y).session
-              (subst (λ (v : Option Attached). SaysAt m.broker.lists v (m.links y).session) (seat_was s f)
+              (subst (λ (v : Option Attached). SaysAt m.broker.lists v (m.links y).session) (address_was s f)
               shown.says)
 
-          yours : (y : List ℕ) (v : Option SessionAddress) → seats y ≡ v
+          yours : (y : List ℕ) (v : Option SessionAddress) → addresses y ≡ v
               → ShowsLink cfg.namespaces m.broker.lists hubs v (m.links y)
               → ShowsLink cfg.namespaces m.broker.lists hubs' v (m.links y)
           yours y None e g = g
           yours y (Some s) e g = elim (eqb_tells s.node n) [
-            | inl f ↦ seated_stays (seat_now s f.1 ∙ o.others s.session (there y s e f.1) ∙ sym (seat_was s f.1)) g
-            | inr f ↦ seated_stays (elsewhere s f.1) g
+            | inl f ↦ at_address_stays (address_now s f.1 ∙ o.others s.session (there y s e f.1)
+                ∙ sym (address_was s f.1)) g
+            | inr f ↦ at_address_stays (elsewhere s f.1) g
           ]
 
           away : IsAway (m.links x)
@@ -556,14 +564,15 @@ module _ {cfg : Config} {hubs : ℕ → Option Node} {seats : List ℕ → Optio
           name =
               ap name_of o.here ∙ (λ i. Some (client_id (old.node i) (old.boot i) (old.used i + 1)))
 
-          came : IsSeated cfg.namespaces m.broker.lists (seated hubs' (seat_of n k)) n
+          came : IsAtAddress cfg.namespaces m.broker.lists (session_at hubs' (address_of n k)) n
               (record (m.links x) { node = Some n; name = machine_id n (m.boots n) (m.counters n + 1) })
           came = record {
             at = refl;
-            name = ap name_of (seat_now (seat_of n k) refl) ∙ name;
+            name = ap name_of (address_now (address_of n k) refl) ∙ name;
             named = id_there n (m.boots n) (m.counters n + 1);
             says = subst (λ (v : Option Attached). SaysAt m.broker.lists v (m.links x).session)
-                (sym (seat_now (seat_of n k) refl)) (subst (λ (b : Session). SaysAt m.broker.lists (attached_at h' k) b)
+                (sym (address_now (address_of n k) refl)) (subst
+                (λ (b : Session). SaysAt m.broker.lists (attached_at h' k) b)
                 (sym away.session) (calls.attaches k now_at user h h' o));
             way = away.way;
             up = away.up;
@@ -575,77 +584,84 @@ module _ {cfg : Config} {hubs : ℕ → Option Node} {seats : List ℕ → Optio
                 ∙ g in cc);
           }
 
-          shows : (y : List ℕ) → ShowsLink cfg.namespaces m.broker.lists hubs' (with seats x (Some (seat_of n k)) y)
+          shows : (y : List ℕ) → ShowsLink cfg.namespaces m.broker.lists hubs'
+              (with addresses x (Some (address_of n k)) y)
               ((connects x n m).links y)
           shows y =
-              with-both (λ z v l. ShowsLink cfg.namespaces m.broker.lists hubs' v l) seats m.links x
-              (Some (seat_of n k)) (record (m.links x) {
+              with-both (λ z v l. ShowsLink cfg.namespaces m.broker.lists hubs' v l) addresses m.links x
+              (Some (address_of n k)) (record (m.links x) {
                 node = Some n;
                 name = machine_id n (m.boots n) (m.counters n + 1);
               })
-              came (λ z ne. yours z (seats z) refl (t.links z)) y
+              came (λ z ne. yours z (addresses z) refl (t.links z)) y
 
-          fresh_seat : (y : List ℕ) (s : SessionAddress) → seats y ≡ Some s → s ≡ (seat_of n k) → ⊥
-          fresh_seat y s e f =
+          fresh_address : (y : List ℕ) (s : SessionAddress) → addresses y ≡ Some s → s ≡ (address_of n k) → ⊥
+          fresh_address y s e f =
               there y s e (ap (λ (z : SessionAddress). z.node) f) (ap (λ (z : SessionAddress). z.session) f)
 
-          apart : (y z : List ℕ) (s : SessionAddress) → with seats x (Some (seat_of n k)) y ≡ Some s
-              → with seats x (Some (seat_of n k)) z ≡ Some s → y ≡ z
+          apart : (y z : List ℕ) (s : SessionAddress) → with addresses x (Some (address_of n k)) y ≡ Some s
+              → with addresses x (Some (address_of n k)) z ≡ Some s → y ≡ z
           apart y z s e f = elim (text_tells y x) [
             | inl p ↦ elim (text_tells z x) [
               | inl q ↦ p.1 ∙ sym q.1
               | inr q ↦
-                  absurd (fresh_seat z s (sym (with-other seats x (Some (seat_of n k)) z q.1) ∙ f)
-                  (sym (same_Some (seat_of n k) s (sym (ap (λ (b : Bool). if b then Some (seat_of n k) else seats y)
+                  absurd (fresh_address z s (sym (with-other addresses x (Some (address_of n k)) z q.1) ∙ f)
+                  (sym (same_Some (address_of n k) s (sym (ap (λ (b : Bool). if b then Some (address_of n k)
+                  else addresses y)
                   p.0) ∙ e))))
             ]
             | inr p ↦ elim (text_tells z x) [
               | inl q ↦
-                  absurd (fresh_seat y s (sym (with-other seats x (Some (seat_of n k)) y p.1) ∙ e)
-                  (sym (same_Some (seat_of n k) s (sym (ap (λ (b : Bool). if b then Some (seat_of n k) else seats z)
+                  absurd (fresh_address y s (sym (with-other addresses x (Some (address_of n k)) y p.1) ∙ e)
+                  (sym (same_Some (address_of n k) s (sym (ap (λ (b : Bool). if b then Some (address_of n k)
+                  else addresses z)
                   q.0) ∙ f))))
-              | inr q ↦ t.apart y z s (sym (with-other seats x (Some (seat_of n k)) y p.1) ∙ e)
-                  (sym (with-other seats x (Some (seat_of n k)) z q.1) ∙ f)
+              | inr q ↦ t.apart y z s (sym (with-other addresses x (Some (address_of n k)) y p.1) ∙ e)
+                  (sym (with-other addresses x (Some (address_of n k)) z q.1) ∙ f)
             ]
           ]
 
-          still : (j i : ℕ) → (r : (y : List ℕ) × (seats y ≡ Some (record { node = j; session = i }))) → (y : List ℕ)
-              × (seats' y ≡ Some (record { node = j; session = i }))
+          still : (j i : ℕ) → (r : (y : List ℕ) × (addresses y ≡ Some (record { node = j; session = i })))
+              → (y : List ℕ)
+              × (addresses' y ≡ Some (record { node = j; session = i }))
           still j i r = (
             r.0,
-            sits r.0 ∙ with-other seats x (Some (seat_of n k)) r.0
-                (λ e. none-some (record { node = j; session = i }) (sym none ∙ ap seats (sym e) ∙ r.1)) ∙ r.1,
+            sits r.0 ∙ with-other addresses x (Some (address_of n k)) r.0
+                (λ e. none-some (record { node = j; session = i }) (sym none ∙ ap addresses (sym e) ∙ r.1)) ∙ r.1,
           )
 
           at_new : (i : ℕ) → is_some (attached_at h' i) ≡ true → (y : List ℕ)
-              × (seats' y ≡ Some (record { node = n; session = i }))
+              × (addresses' y ≡ Some (record { node = n; session = i }))
           at_new i e = elim (eqb_tells i k) [
             | inl p ↦ (
               x,
-              sits x ∙ with-same seats x (Some (seat_of n k))
-                  ∙ ap Some (seats_are (seat_of n k) (record { node = n; session = i }) refl (sym p.1)),
+              sits x ∙ with-same addresses x (Some (address_of n k))
+                  ∙ ap Some (addresses_are (address_of n k) (record { node = n; session = i }) refl (sym p.1)),
             )
             | inr p ↦ still n i (t.onto n i (ap (λ (v : Option Node). is_some (session_in v i)) was
                 ∙ ap is_some (sym (o.others i p.1)) ∙ e))
           ]
 
           onto : (j i : ℕ) → is_some (session_in (hubs' j) i) ≡ true → (y : List ℕ)
-              × (seats' y ≡ Some (record { node = j; session = i }))
+              × (addresses' y ≡ Some (record { node = j; session = i }))
           onto j = hub_by (λ a v. (i : ℕ) → is_some (session_in v i) ≡ true → (y : List ℕ)
-              × (seats' y ≡ Some (record { node = a; session = i }))) at_new (λ a ne i e. still a i (t.onto a i e)) j
+              × (addresses' y ≡ Some (record { node = a; session = i }))) at_new (λ a ne i e. still a i (t.onto a i e))
+              j
 
-          among : (y : List ℕ) (s : SessionAddress) → with seats x (Some (seat_of n k)) y ≡ Some s
+          among : (y : List ℕ) (s : SessionAddress) → with addresses x (Some (address_of n k)) y ≡ Some s
               → is_among y (and_also x m.clients) ≡ true
           among y s e = elim (text_tells y x) [
             | inl p ↦ subst (λ (z : List ℕ). is_among z (and_also x m.clients) ≡ true) (sym p.1)
                 (also_there x m.clients)
-            | inr p ↦ also_more x m.clients y (t.among y s (sym (with-other seats x (Some (seat_of n k)) y p.1) ∙ e))
+            | inr p ↦ also_more x m.clients y (t.among y s
+                (sym (with-other addresses x (Some (address_of n k)) y p.1) ∙ e))
           ]
 
-      pub detach_goes : (s : SessionAddress) → seats x ≡ Some s → s.node ≡ n → SameRest h h' → OthersStay s.session h h'
+      pub detach_goes : (s : SessionAddress) → addresses x ≡ Some s → s.node ≡ n → SameRest h h'
+          → OthersStay s.session h h'
           → attached_at h' s.session ≡ None
-          → ((y : List ℕ) → seats' y ≡ with seats x None y) → (l : ClientLink) → IsAway l
-          → ShowsNodes cfg hubs' seats' (link_with x l m)
+          → ((y : List ℕ) → addresses' y ≡ with addresses x None y) → (l : ClientLink) → IsAway l
+          → ShowsNodes cfg hubs' addresses' (link_with x l m)
       detach_goes s sat at rest stay gone sits l away = record {
         nodes = same_nodes;
         hub = same_hubs (link_with x l m) is (λ j ne. refl) (λ j ne. refl);
@@ -669,31 +685,33 @@ module _ {cfg : Config} {hubs : ℕ → Option Node} {seats : List ℕ → Optio
             refused = rest.refused ∙ old.refused;
           }
 
-          before : (y : List ℕ) (o : SessionAddress) → with seats x None y ≡ Some o → seats y ≡ Some o
+          before : (y : List ℕ) (o : SessionAddress) → with addresses x None y ≡ Some o → addresses y ≡ Some o
           before y o e = elim (text_tells y x) [
-            | inl p ↦ absurd (none-some o (sym (ap (λ (b : Bool). if b then None else seats y) p.0) ∙ e))
-            | inr p ↦ sym (with-other seats x None y p.1) ∙ e
+            | inl p ↦ absurd (none-some o (sym (ap (λ (b : Bool). if b then None else addresses y) p.0) ∙ e))
+            | inr p ↦ sym (with-other addresses x None y p.1) ∙ e
           ]
 
-          other : (y : List ℕ) (o : SessionAddress) → y ≢ x → seats y ≡ Some o → o.node ≡ n → o.session ≢ s.session
-          other y o ne e f g = ne (t.apart y x s (e ∙ ap Some (seats_are o s (f ∙ sym at) g)) sat)
+          other : (y : List ℕ) (o : SessionAddress) → y ≢ x → addresses y ≡ Some o → o.node ≡ n → o.session ≢ s.session
+          other y o ne e f g = ne (t.apart y x s (e ∙ ap Some (addresses_are o s (f ∙ sym at) g)) sat)
 
-          yours : (y : List ℕ) → y ≢ x → (v : Option SessionAddress) → seats y ≡ v
+          yours : (y : List ℕ) → y ≢ x → (v : Option SessionAddress) → addresses y ≡ v
               → ShowsLink cfg.namespaces m.broker.lists hubs v (m.links y)
               → ShowsLink cfg.namespaces m.broker.lists hubs' v (m.links y)
           yours y ne None e g = g
           yours y ne (Some o) e g = elim (eqb_tells o.node n) [
-            | inl f ↦ seated_stays (seat_now o f.1 ∙ stay o.session (other y o ne e f.1) ∙ sym (seat_was o f.1)) g
-            | inr f ↦ seated_stays (elsewhere o f.1) g
+            | inl f ↦ at_address_stays (address_now o f.1 ∙ stay o.session (other y o ne e f.1)
+                ∙ sym (address_was o f.1)) g
+            | inr f ↦ at_address_stays (elsewhere o f.1) g
           ]
 
-          shows : (y : List ℕ) → ShowsLink cfg.namespaces m.broker.lists hubs' (with seats x None y)
+          shows : (y : List ℕ) → ShowsLink cfg.namespaces m.broker.lists hubs' (with addresses x None y)
               (with m.links x l y)
-          shows y = with-both (λ z v k. ShowsLink cfg.namespaces m.broker.lists hubs' v k) seats m.links x None l away
-              (λ z ne. yours z ne (seats z) refl (t.links z)) y
+          shows y = with-both (λ z v k. ShowsLink cfg.namespaces m.broker.lists hubs' v k) addresses m.links x None l
+              away
+              (λ z ne. yours z ne (addresses z) refl (t.links z)) y
 
           at_new : (i : ℕ) → is_some (attached_at h' i) ≡ true → (y : List ℕ)
-              × (seats' y ≡ Some (record { node = n; session = i }))
+              × (addresses' y ≡ Some (record { node = n; session = i }))
           at_new i e = elim (eqb_tells i s.session) [
             | inl p ↦ absurd (let none : false ≡ true = sym (ap is_some (ap (attached_at h') p.1 ∙ gone)) ∙ e in cc)
             | inr p ↦ still n i (λ a f. p.1 f) (t.onto n i
@@ -701,47 +719,48 @@ module _ {cfg : Config} {hubs : ℕ → Option Node} {seats : List ℕ → Optio
           ]
             where
               still : (j i : ℕ) → (j ≡ n → i ≡ s.session → ⊥)
-                  → (r : (y : List ℕ) × (seats y ≡ Some (record { node = j; session = i }))) → (y : List ℕ)
-                  × (seats' y ≡ Some (record { node = j; session = i }))
+                  → (r : (y : List ℕ) × (addresses y ≡ Some (record { node = j; session = i }))) → (y : List ℕ)
+                  × (addresses' y ≡ Some (record { node = j; session = i }))
               still j i apart r = (
                 r.0,
-                sits r.0 ∙ with-other seats x None r.0 (λ f.
+                sits r.0 ∙ with-other addresses x None r.0 (λ f.
                     let same : s ≡ record { node = j; session = i } =
-                    same_Some s (record { node = j; session = i }) (sym sat ∙ ap seats (sym f) ∙ r.1) in
+                    same_Some s (record { node = j; session = i }) (sym sat ∙ ap addresses (sym f) ∙ r.1) in
                     apart (sym (ap (λ (z : SessionAddress). z.node) same) ∙ at)
                     (sym (ap (λ (z : SessionAddress). z.session) same))) ∙ r.1,
               )
 
-          elsewhere_still : (j i : ℕ) → j ≢ n → (r : (y : List ℕ) × (seats y ≡ Some (record { node = j; session = i })))
-              → (y : List ℕ) × (seats' y ≡ Some (record { node = j; session = i }))
+          elsewhere_still : (j i : ℕ) → j ≢ n → (r : (y : List ℕ)
+              × (addresses y ≡ Some (record { node = j; session = i })))
+              → (y : List ℕ) × (addresses' y ≡ Some (record { node = j; session = i }))
           elsewhere_still j i ne r = (
             r.0,
-            sits r.0 ∙ with-other seats x None r.0 (λ f.
+            sits r.0 ∙ with-other addresses x None r.0 (λ f.
                 let same : s ≡ record { node = j; session = i } =
-                same_Some s (record { node = j; session = i }) (sym sat ∙ ap seats (sym f) ∙ r.1) in
+                same_Some s (record { node = j; session = i }) (sym sat ∙ ap addresses (sym f) ∙ r.1) in
                 ne (sym (ap (λ (z : SessionAddress). z.node) same) ∙ at)) ∙ r.1,
           )
 
           onto : (j i : ℕ) → is_some (session_in (hubs' j) i) ≡ true → (y : List ℕ)
-              × (seats' y ≡ Some (record { node = j; session = i }))
+              × (addresses' y ≡ Some (record { node = j; session = i }))
           onto j = hub_by (λ a v. (i : ℕ) → is_some (session_in v i) ≡ true → (y : List ℕ)
-              × (seats' y ≡ Some (record { node = a; session = i }))) at_new
+              × (addresses' y ≡ Some (record { node = a; session = i }))) at_new
               (λ a ne i e. elsewhere_still a i ne (t.onto a i e)) j
 
     -- ---- a node restarts
 
-    pub restart_goes : h' ≡ empty n (m.boots n + 1) → (seats' : List ℕ → Option SessionAddress)
-        → ((y : List ℕ) → seats' y ≡ leave_node n (seats y)) → ShowsNodes cfg hubs' seats' (restarts n m)
-    restart_goes new seats' sits = record {
+    pub restart_goes : h' ≡ empty n (m.boots n + 1) → (addresses' : List ℕ → Option SessionAddress)
+        → ((y : List ℕ) → addresses' y ≡ leave_node n (addresses y)) → ShowsNodes cfg hubs' addresses' (restarts n m)
+    restart_goes new addresses' sits = record {
       nodes = same_nodes;
       hub = same_hubs (restarts n m) is (λ j ne. with_at_other m.boots n (m.boots n + 1) j ne)
           (λ j ne. with_at_other m.counters n 0 j ne);
       links = λ y. subst (λ (v : Option SessionAddress). ShowsLink cfg.namespaces m.broker.lists hubs' v
-          ((restarts n m).links y)) (sym (sits y)) (by_seat (seats y) (m.links y) (t.links y));
-      apart = λ y z s e f. t.apart y z s (before (seats y) s (sym (sits y) ∙ e))
-          (before (seats z) s (sym (sits z) ∙ f));
+          ((restarts n m).links y)) (sym (sits y)) (by_address (addresses y) (m.links y) (t.links y));
+      apart = λ y z s e f. t.apart y z s (before (addresses y) s (sym (sits y) ∙ e))
+          (before (addresses z) s (sym (sits z) ∙ f));
       onto = onto;
-      among = λ y s e. t.among y s (before (seats y) s (sym (sits y) ∙ e));
+      among = λ y s e. t.among y s (before (addresses y) s (sym (sits y) ∙ e));
       distinct = t.distinct;
     }
       where
@@ -762,10 +781,10 @@ module _ {cfg : Config} {hubs : ℕ → Option Node} {seats : List ℕ → Optio
             by_value true f = absurd (none-some s f)
             by_value false f = f
 
-        by_seat : (v : Option SessionAddress) (l : ClientLink) → ShowsLink cfg.namespaces m.broker.lists hubs v l
+        by_address : (v : Option SessionAddress) (l : ClientLink) → ShowsLink cfg.namespaces m.broker.lists hubs v l
             → ShowsLink cfg.namespaces m.broker.lists hubs' (leave_node n v) (if on_node n l.node then breaks l else l)
-        by_seat None l g = subst (λ (b : Bool). IsAway (if b then breaks l else l)) (sym (ap (on_node n) g.node)) g
-        by_seat (Some s) l g = elim (eqb_tells s.node n) [
+        by_address None l g = subst (λ (b : Bool). IsAway (if b then breaks l else l)) (sym (ap (on_node n) g.node)) g
+        by_address (Some s) l g = elim (eqb_tells s.node n) [
           | inl p ↦
               subst (λ (b : Bool). ShowsLink cfg.namespaces m.broker.lists hubs' (if b then None else Some s)
               (if on_node n l.node then breaks l else l)) (sym p.0)
@@ -774,19 +793,19 @@ module _ {cfg : Config} {hubs : ℕ → Option Node} {seats : List ℕ → Optio
           | inr p ↦
               subst (λ (b : Bool). ShowsLink cfg.namespaces m.broker.lists hubs' (if b then None else Some s)
               (if on_node n l.node then breaks l else l)) (sym p.0)
-              (subst (λ (b : Bool). IsSeated cfg.namespaces m.broker.lists (seated hubs' s) s.node
-              (if b then breaks l else l)) (sym (ap (on_node n) g.at ∙ p.0)) (seated_stays (elsewhere s p.1) g))
+              (subst (λ (b : Bool). IsAtAddress cfg.namespaces m.broker.lists (session_at hubs' s) s.node
+              (if b then breaks l else l)) (sym (ap (on_node n) g.at ∙ p.0)) (at_address_stays (elsewhere s p.1) g))
         ]
 
         at_new : (i : ℕ) → is_some (attached_at h' i) ≡ true → (y : List ℕ)
-            × (seats' y ≡ Some (record { node = n; session = i }))
+            × (addresses' y ≡ Some (record { node = n; session = i }))
         at_new i e = absurd (let none : false ≡ true = sym (ap (λ (z : Node). is_some (attached_at z i)) new) ∙ e in cc)
 
         onto : (j i : ℕ) → is_some (session_in (hubs' j) i) ≡ true → (y : List ℕ)
-            × (seats' y ≡ Some (record { node = j; session = i }))
+            × (addresses' y ≡ Some (record { node = j; session = i }))
         onto j =
             hub_by (λ a v. (i : ℕ) → is_some (session_in v i) ≡ true → (y : List ℕ)
-            × (seats' y ≡ Some (record { node = a; session = i }))) at_new
+            × (addresses' y ≡ Some (record { node = a; session = i }))) at_new
             (λ a ne i e.
             let r = t.onto a i e in (
               r.0,
@@ -797,20 +816,20 @@ module _ {cfg : Config} {hubs : ℕ → Option Node} {seats : List ℕ → Optio
 
   -- ---- the clients of one node, for counting
 
-  pub seats_at : (n : ℕ) (h : Node) → hubs n ≡ Some h → AreFollows h.rows → Agrees (attached_at h) h.rows
-      → IsBounded (attached_at h) → Seats n h m.links m.clients (λ x. number_at n (seats x))
-  seats_at n h was follows agrees bounded = record {
-    on = λ x. on_by (seats x) (m.links x) (t.links x);
-    there = λ x k e. there x k (number_is n (seats x) k e);
-    apart = λ x y k e f. t.apart x y (record { node = n; session = k }) (number_is n (seats x) k e)
-        (number_is n (seats y) k f);
+  pub addresses_at : (n : ℕ) (h : Node) → hubs n ≡ Some h → AreFollows h.rows → Agrees (attached_at h) h.rows
+      → IsBounded (attached_at h) → Addresses n h m.links m.clients (λ x. number_at n (addresses x))
+  addresses_at n h was follows agrees bounded = record {
+    on = λ x. on_by (addresses x) (m.links x) (t.links x);
+    there = λ x k e. there x k (number_is n (addresses x) k e);
+    apart = λ x y k e f. t.apart x y (record { node = n; session = k }) (number_is n (addresses x) k e)
+        (number_is n (addresses y) k f);
     onto = λ k e.
         let r = t.onto n k (ap (λ (v : Option Node). is_some (session_in v k)) was ∙ e) in
         (r.0, ap (number_at n) r.1 ∙ ap (λ (b : Bool). if b then Some k else None) (eq-eqb n n refl));
-    among = λ x k e. t.among x (record { node = n; session = k }) (number_is n (seats x) k e);
+    among = λ x k e. t.among x (record { node = n; session = k }) (number_is n (addresses x) k e);
     distinct = t.distinct;
-    channels = λ x. once_by (seats x) (m.links x) (t.links x);
-    listed = λ x. listed_by (seats x) (m.links x) (t.links x);
+    channels = λ x. once_by (addresses x) (m.links x) (t.links x);
+    listed = λ x. listed_by (addresses x) (m.links x) (t.links x);
     agrees = agrees;
     follows = follows;
     bounded = bounded;
@@ -825,10 +844,10 @@ module _ {cfg : Config} {hubs : ℕ → Option Node} {seats : List ℕ → Optio
           by_value true = refl
           by_value false = refl
 
-      there : (x : List ℕ) (k : ℕ) → seats x ≡ Some (record { node = n; session = k }) → (a : Attached)
+      there : (x : List ℕ) (k : ℕ) → addresses x ≡ Some (record { node = n; session = k }) → (a : Attached)
           × (attached_at h k ≡ Some a) × ((c : List ℕ) → is_off (a.state.subs c) ≡ is_off ((m.links x).session.subs c))
       there x k e =
-          let g = seat_shows x (record { node = n; session = k }) e in
+          let g = address_shows x (record { node = n; session = k }) e in
           let says = subst (λ (v : Option Attached). SaysAt m.broker.lists v (m.links x).session)
           (ap (λ (v : Option Node). session_in v k) was) g.says in
           let a = attached m.broker.lists (attached_at h k) (m.links x).session says in (

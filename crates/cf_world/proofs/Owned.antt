@@ -68,20 +68,20 @@ module _ (lists : Lists) (s : State) where
             (free-pushes c (record { epoch = r.epoch; offset = r.top }) (run_length a r))
             (free-end (falls_short a r) c),
       ) k
-  finish_own c (On p mark) b k = k
+  finish_own c (On p behind_at) b k = k
 
-  verdict_own : (c : List ℕ) (q : Position) (mark : Option ℕ) (v : Verdict) (b : Session) → All (IsOwn s) b.notes
-      → All (IsOwn s) (by_verdict (spoken lists) c q mark v b).notes
-  verdict_own c q mark Drop b k = k
-  verdict_own c q mark Pass b k = push-own (Pub c q) (put_sub c (On q mark) b) tt k
-  verdict_own c q mark Insufficient b k = push-own (End c) (put_sub c Off b) tt k
+  verdict_own : (c : List ℕ) (q : Position) (behind_at : Option ℕ) (v : Verdict) (b : Session) → All (IsOwn s) b.notes
+      → All (IsOwn s) (by_verdict (spoken lists) c q behind_at v b).notes
+  verdict_own c q behind_at Drop b k = k
+  verdict_own c q behind_at Pass b k = push-own (Pub c q) (put_sub c (On q behind_at) b) tt k
+  verdict_own c q behind_at Insufficient b k = push-own (End c) (put_sub c Off b) tt k
 
   come_own : (c : List ℕ) (q : Position) (o : Sub) (b : Session) → All (IsOwn s) b.notes
       → All (IsOwn s) (come_at (spoken lists) c q o b).notes
   come_own c q Off b k = k
   come_own c q (Asked id since a) b k = k
   come_own c q (Ready id was r a) b k = k
-  come_own c q (On p mark) b k = verdict_own c q mark (verdict p q) b k
+  come_own c q (On p behind_at) b k = verdict_own c q behind_at (verdict p q) b k
 
   checked_own : (c : List ℕ) (p : Position) (v : Checked) (b : Session) → All (IsOwn s) b.notes
       → All (IsOwn s) (by_check (spoken lists) c p v b).notes
@@ -94,14 +94,14 @@ module _ (lists : Lists) (s : State) where
   check_own c top Off b k = k
   check_own c top (Asked id since a) b k = k
   check_own c top (Ready id was r a) b k = k
-  check_own c top (On p mark) b k = checked_own c p (position_check top p mark) b k
+  check_own c top (On p behind_at) b k = checked_own c p (position_check top p behind_at) b k
 
   read_own : (c : List ℕ) (r : Reading) (o : Sub) (b : Session) → All (IsOwn s) b.notes
       → All (IsOwn s) (read_at (spoken lists) c r o b).notes
   read_own c r Off b k = k
   read_own c r (Asked id since a) b k = k
   read_own c r (Ready id was x a) b k = k
-  read_own c r (On p mark) b k = k
+  read_own c r (On p behind_at) b k = k
 
 pub finishes-own : (lists : Lists) (c : List ℕ) → Owns (finishes (spoken lists) c)
 finishes-own lists c s b k = finish_own lists s c (b.subs c) b k
@@ -122,11 +122,11 @@ pub finish-rest : (lists : Lists) (c : List ℕ) (o : Sub) (b : Session) → is_
 finish-rest lists c Off b h = refl
 finish-rest lists c (Asked id since a) b h = refl
 finish-rest lists c (Ready id was r a) b h = absurd (cc)
-finish-rest lists c (On p mark) b h = refl
+finish-rest lists c (On p behind_at) b h = refl
 
 pub check-rest : (lists : Lists) (c : List ℕ) (top : Option Position) (o : Sub) (b : Session) → is_on o ≡ false
     → check_at (spoken lists) c top o b ≡ b
 check-rest lists c top Off b h = refl
 check-rest lists c top (Asked id since a) b h = refl
 check-rest lists c top (Ready id was r a) b h = refl
-check-rest lists c top (On p mark) b h = absurd (cc)
+check-rest lists c top (On p behind_at) b h = absurd (cc)

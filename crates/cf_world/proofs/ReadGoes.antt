@@ -26,15 +26,15 @@ use Rattle.cf_machine.specs.World.{World, broker_with}
 use Rattle.cf_machine.proofs.Brokering.{lists-opened}
 use Rattle.cf_world.specs.BrokerTie.{Finds, FindsNone}
 use Rattle.cf_world.specs.HubCalls.{AtHub, WasRead}
-use Rattle.cf_world.specs.NodesTie.{seated, session_in}
-use Rattle.cf_world.specs.Tie.{AreTied, seats_of}
+use Rattle.cf_world.specs.NodesTie.{session_at, session_in}
+use Rattle.cf_world.specs.Tie.{AreTied, addresses_of}
 use Rattle.cf_world.specs.declared.broker.WorldBroker.{WorldBroker as Code}
 use Rattle.cf_world.specs.declared.clients.Peer.{Peer}
 use Rattle.cf_world.specs.declared.clients.SessionAddress.{SessionAddress}
 use Rattle.cf_world.proofs.Ends.{reads_keeps}
 use Rattle.cf_world.proofs.Going.{Stays, broker-goes, broker-stays, grown-opened}
 use Rattle.cf_world.proofs.Looking.{asks_at}
-use Rattle.cf_world.proofs.NodesTie.{one_name, seat_shows}
+use Rattle.cf_world.proofs.NodesTie.{one_name, address_shows}
 use Rattle.cf_world.proofs.Owned.{reads-own}
 use Rattle.cf_world.proofs.Reading.{Missing, are-missed, reading-is}
 use Rattle.cf_world.proofs.Passing.{set-up}
@@ -64,30 +64,30 @@ asked-is Off since e = absurd (cc)
 asked-is (Asked id s a) since e = let same : s ≡ since = ap since_in e in
     record { id = id; arrived = a; is = ap (λ (z : Option Position). Asked id z a) same }
 asked-is (Ready id was r a) since e = absurd (cc)
-asked-is (On p mark) since e = absurd (cc)
+asked-is (On p behind_at) since e = absurd (cc)
 
 not-asked : (u : Sub) → None ≡ asked_of u → is_asked u ≡ false
 not-asked Off e = refl
 not-asked (Asked id s a) e = absurd (cc)
 not-asked (Ready id was r a) e = refl
-not-asked (On p mark) e = refl
+not-asked (On p behind_at) e = refl
 
 module _ {cfg : Config} {table : NamespaceTable} {b : Code} {hubs : ℕ → Option Node} {peers : List ℕ → Option Peer}
     {m : World}
     (t : AreTied cfg table b hubs peers m) (x c : List ℕ) where
-  pub read-away : seats_of peers x ≡ None → AreTied cfg table b hubs peers (happens cfg m (Read x c))
+  pub read-away : addresses_of peers x ≡ None → AreTied cfg table b hubs peers (happens cfg m (Read x c))
   read-away none =
       rests t (Read x c) (ap (λ (d : Session). is_asked (d.subs c) && can_open c m.broker)
       (opens-away t x none).session)
 
-  module _ (s : SessionAddress) (sat : seats_of peers x ≡ Some s) (o : Option Answer)
+  module _ (s : SessionAddress) (sat : addresses_of peers x ≡ Some s) (o : Option Answer)
       (asks : (h : Node) → hubs s.node ≡ Some h → o ≡ asked_of (sub_at h s.session c)) where
     -- what the hub answers is so of the machine's session
     answer-is : o ≡ asked_of ((m.links x).session.subs c)
     answer-is =
         let there = hub_there t x s sat in
-        let g = seat_shows t.nodes x s sat in
-        let here : seated hubs s ≡ attached_at there.0 s.session =
+        let g = address_shows t.nodes x s sat in
+        let here : session_at hubs s ≡ attached_at there.0 s.session =
         ap (λ (z : Option Node). session_in z s.session) there.1 in
         asks there.0 there.1
         ∙ asks_at m.broker.lists (attached_at there.0 s.session) (m.links x).session
@@ -104,7 +104,7 @@ module _ {cfg : Config} {table : NamespaceTable} {b : Code} {hubs : ℕ → Opti
 
       -- its channel is set up
       pub read-set-up : IsSome (settings_of cfg.namespaces c)
-      read-set-up = set-up cfg.namespaces c ((seat_shows t.nodes x s sat).served c (ap is_off asked.is))
+      read-set-up = set-up cfg.namespaces c ((address_shows t.nodes x s sat).served c (ap is_off asked.is))
 
       both-false : (p q : Bool) → q ≡ false → (p && q) ≡ false
       both-false true q e = e

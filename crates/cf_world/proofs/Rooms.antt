@@ -13,19 +13,19 @@ use Rattle.cf_machine.specs.Config.{Config}
 use Rattle.cf_machine.specs.Refusals.{has_no_room, node_is_full}
 use Rattle.cf_machine.specs.World.{World, is_connected, rows, rows_of, sessions_of}
 use Rattle.cf_world.specs.HubCalls.{IsSound}
-use Rattle.cf_world.specs.NodesTie.{IsSeated, ShowsNodes, seated}
+use Rattle.cf_world.specs.NodesTie.{IsAtAddress, ShowsNodes, session_at}
 use Rattle.cf_world.specs.declared.clients.SessionAddress.{SessionAddress}
-use Rattle.cf_world.proofs.Counts.{Seats, all_rows, full, mine, room}
-use Rattle.cf_world.proofs.NodesTie.{away_shows, number_at, seat_shows, seats_at}
+use Rattle.cf_world.proofs.Counts.{Addresses, all_rows, full, mine, room}
+use Rattle.cf_world.proofs.NodesTie.{away_shows, number_at, address_shows, addresses_at}
 
-module _ {cfg : Config} {hubs : ℕ → Option Node} {seats : List ℕ → Option SessionAddress} {m : World}
-    (t : ShowsNodes cfg hubs seats m) where
-  module _ (x : List ℕ) (s : SessionAddress) (sits : seats x ≡ Some s) where
-    g : IsSeated cfg.namespaces m.broker.lists (seated hubs s) s.node (m.links x)
-    g = seat_shows t x s sits
+module _ {cfg : Config} {hubs : ℕ → Option Node} {addresses : List ℕ → Option SessionAddress} {m : World}
+    (t : ShowsNodes cfg hubs addresses m) where
+  module _ (x : List ℕ) (s : SessionAddress) (sits : addresses x ≡ Some s) where
+    g : IsAtAddress cfg.namespaces m.broker.lists (session_at hubs s) s.node (m.links x)
+    g = address_shows t x s sits
 
-    pub is_seated : is_connected x m ≡ true
-    is_seated = ap is_some g.at
+    pub is_at_address : is_connected x m ≡ true
+    is_at_address = ap is_some g.at
 
   -- ---- a connect
 
@@ -36,7 +36,7 @@ module _ {cfg : Config} {hubs : ℕ → Option Node} {seats : List ℕ → Optio
   under : (n v : ℕ) → v ≤ largest → nat_lt v largest ≡ false → v ≡ largest
   under n v few e = grind (arith, nat_tests, few, e)
 
-  module _ (total : CountsSessions) (x : List ℕ) (n : ℕ) (h : Node) (was : hubs n ≡ Some h) (none : seats x ≡ None)
+  module _ (total : CountsSessions) (x : List ℕ) (n : ℕ) (h : Node) (was : hubs n ≡ Some h) (none : addresses x ≡ None)
       (follows : AreFollows h.rows) (agrees : Agrees (attached_at h) h.rows) (bounded : IsBounded (attached_at h)) where
     away : is_connected x m ≡ false
     away = ap is_some (away_shows t x none).node
@@ -56,7 +56,7 @@ module _ {cfg : Config} {hubs : ℕ → Option Node} {seats : List ℕ → Optio
         by_values : (a b : Bool) → nat_lt (sessions_of n m.links m.clients) most_sessions ≡ a
             → nat_lt (m.counters n) largest ≡ b → (a && b) ≡ true
         by_values true true e f = refl
-        by_values false b e f = absurd (free (inl (full (seats_at t n h was follows agrees bounded) total e)))
+        by_values false b e f = absurd (free (inl (full (addresses_at t n h was follows agrees bounded) total e)))
         by_values true false e f =
             absurd (free (inr (let used = (t.hub n h was).used in let few = (t.hub n h was).few in used
             ∙ under n (m.counters n) (subst (λ (i : ℕ). i ≤ largest) used few) f)))
@@ -66,7 +66,7 @@ module _ {cfg : Config} {hubs : ℕ → Option Node} {seats : List ℕ → Optio
       where
         by_value : (a : Bool) → nat_lt (sessions_of n m.links m.clients) most_sessions ≡ a
             → (a && nat_lt (m.counters n) largest) ≡ false
-        by_value true e = absurd (room (seats_at t n h was follows agrees bounded) total e all)
+        by_value true e = absurd (room (addresses_at t n h was follows agrees bounded) total e all)
         by_value false e = refl
     no_room (inr last) = may_is ∙ by_value (nat_lt (sessions_of n m.links m.clients) most_sessions)
       where
@@ -89,25 +89,25 @@ module _ {cfg : Config} {hubs : ℕ → Option Node} {seats : List ℕ → Optio
 
   -- ---- a subscription
 
-  module _ (session : CountsSession) (all : CountsAll) (x : List ℕ) (s : SessionAddress) (sits : seats x ≡ Some s)
+  module _ (session : CountsSession) (all : CountsAll) (x : List ℕ) (s : SessionAddress) (sits : addresses x ≡ Some s)
       (h : Node) (was : hubs s.node ≡ Some h) (sound : IsSound h) where
-    seats_here : Seats s.node h m.links m.clients (λ y. number_at s.node (seats y))
-    seats_here = seats_at t s.node h was sound.rows sound.agrees sound.bounded
+    addresses_here : Addresses s.node h m.links m.clients (λ y. number_at s.node (addresses y))
+    addresses_here = addresses_at t s.node h was sound.rows sound.agrees sound.bounded
 
     own_number : (n : ℕ) → (n == n) ≡ true
     own_number n = grind (arith, nat_tests)
 
     mine_is : length (channels_of h.rows s.session) ≡ rows (m.links x)
-    mine_is = mine seats_here session x s.session
+    mine_is = mine addresses_here session x s.session
         (ap (number_at s.node) sits ∙ ap (λ (b : Bool). if b then Some s.session else None) (own_number s.node))
 
     all_are : length h.rows ≡ rows_of s.node m.links m.clients
-    all_are = all_rows seats_here session all
+    all_are = all_rows addresses_here session all
 
     has_is : has_no_room (m.links x) m ≡ (nat_le most_channels (rows (m.links x))
         || nat_le most_rows (rows_of s.node m.links m.clients))
     has_is = ap (λ (o : Option ℕ). nat_le most_channels (rows (m.links x)) || node_is_full o m)
-        (seat_shows t x s sits).at
+        (address_shows t x s sits).at
 
     pub row_room : (IsFull s.session h → ⊥) → has_no_room (m.links x) m ≡ false
     row_room free =

@@ -145,7 +145,7 @@ unasked : (v : Sub) → is_off v ≡ true → is_unfinished v ≡ false
 unasked Off h = refl
 unasked (Asked id since b) h = absurd (cc)
 unasked (Ready id was r b) h = absurd (cc)
-unasked (On p mark) h = refl
+unasked (On p behind_at) h = refl
 
 module _ (l : ClientLink) where
   none_waits : ((c : List ℕ) → is_unfinished (l.session.subs c) ≡ false) → (cs : List (List ℕ))

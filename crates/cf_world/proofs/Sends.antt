@@ -36,9 +36,9 @@ use Rattle.cf_world.specs.Exchange.{asks_too_much, lacks_by, sent_by}
 use Rattle.cf_session.specs.SessionMachine.{reply_text}
 use Rattle.cf_world.specs.HubCalls.{AtHub, Told}
 use Rattle.cf_world.specs.Judging.{Judges, Passes}
-use Rattle.cf_world.specs.NodesTie.{IsSeated, ShowsNodes, seated}
+use Rattle.cf_world.specs.NodesTie.{IsAtAddress, ShowsNodes, session_at}
 use Rattle.cf_world.specs.Sending.{IsSent}
-use Rattle.cf_world.specs.Tie.{AreTied, seats_of}
+use Rattle.cf_world.specs.Tie.{AreTied, addresses_of}
 use Rattle.cf_world.specs.declared.broker.WorldBroker.{WorldBroker as Code}
 use Rattle.cf_world.specs.declared.client_command.ClientCommand.{ClientCommand}
 use Rattle.cf_world.specs.declared.client_command.ClientCommand.TheVariants as client_command
@@ -47,21 +47,21 @@ use Rattle.cf_world.specs.Judging as judged
 use Rattle.cf_world.specs.declared.clients.Peer.{Peer}
 use Rattle.cf_world.specs.declared.clients.SessionAddress.{SessionAddress}
 use Rattle.cf_world.proofs.AtHubs.{ActsAt, HearsAt}
-use Rattle.cf_world.proofs.Breaking.{seats-with}
+use Rattle.cf_world.proofs.Breaking.{addresses-with}
 use Rattle.cf_world.proofs.Exchanged.{can_send, cannot_away, cannot_unready}
-use Rattle.cf_world.proofs.Exchanging.{same-seats}
+use Rattle.cf_world.proofs.Exchanging.{same-addresses}
 use Rattle.cf_world.proofs.Going.{Stays}
 use Rattle.cf_world.proofs.Hearing.{refused_goes, too_long_goes, unheard_goes}
 use Rattle.cf_world.proofs.Looking.{open_at, waits_at}
 use Rattle.cf_machine.proofs.Names.{with-all}
-use Rattle.cf_world.proofs.NodesTie.{seat_shows}
+use Rattle.cf_world.proofs.NodesTie.{address_shows}
 use Rattle.cf_world.proofs.Passing.{lacks_is, length_is}
 use Rattle.cf_world.proofs.Saying.{says_fails}
 use Rattle.cf_world.proofs.Sendable.{can_be_sent, fits, exchange_happens, is_settled, isn't_settled, left-of}
 use Rattle.cf_world.proofs.Sendable.{not_opened, not_sent, nothing_happens}
 use Rattle.cf_world.proofs.SentOwn.{calls-new, new-less, old_of}
 use Rattle.cf_world.proofs.Served.{opens-away}
-use Rattle.cf_world.proofs.Sitting.{client_here, seat_here}
+use Rattle.cf_world.proofs.Sitting.{client_here, address_here}
 
 is_code : (code : ErrorCode) → IsCode (code_of code)
 is_code error.Internal = (omega arith, omega arith)
@@ -131,19 +131,19 @@ module _ {cfg : Config} {table : NamespaceTable} {b : Code} {hubs : ℕ → Opti
   stays_by : happens cfg m (event_by e x) ≡ m → AreTied cfg table b hubs peers (happens cfg m (event_by e x))
   stays_by h = subst (λ (w : World). AreTied cfg table b hubs peers w) (sym h) t
 
-  pub no_seat : seats_of peers x ≡ None → AreTied cfg table b hubs peers (happens cfg m (event_by e x))
-  no_seat none = stays_by (nothing_happens cfg m x e (inr (cannot_away cfg x asked m (opens-away t x none).node)))
+  pub no_address : addresses_of peers x ≡ None → AreTied cfg table b hubs peers (happens cfg m (event_by e x))
+  no_address none = stays_by (nothing_happens cfg m x e (inr (cannot_away cfg x asked m (opens-away t x none).node)))
 
-  module _ (s : SessionAddress) (sat : seats_of peers x ≡ Some s) where
-    seat : IsSeated cfg.namespaces m.broker.lists (seated hubs s) s.node l
-    seat = seat_shows t.nodes x s sat
+  module _ (s : SessionAddress) (sat : addresses_of peers x ≡ Some s) where
+    address : IsAtAddress cfg.namespaces m.broker.lists (session_at hubs s) s.node l
+    address = address_shows t.nodes x s sat
 
     -- whether all subscriptions of the session are finished, as its hub tells
     abbrev pub IsSettled : Bool → Type 0
-    IsSettled settled = IsTrue settled ↔ ((c : List ℕ) → is_unfinished (sub_in (seated hubs s) c) ≡ false)
+    IsSettled settled = IsTrue settled ↔ ((c : List ℕ) → is_unfinished (sub_in (session_at hubs s) c) ≡ false)
 
-    waits_here : (c : List ℕ) → is_unfinished (sub_in (seated hubs s) c) ≡ is_unfinished (l.session.subs c)
-    waits_here = waits_at m.broker.lists (seated hubs s) l.session seat.says
+    waits_here : (c : List ℕ) → is_unfinished (sub_in (session_at hubs s) c) ≡ is_unfinished (l.session.subs c)
+    waits_here = waits_at m.broker.lists (session_at hubs s) l.session address.says
 
     quiet_by : (settled : Bool) → IsSettled settled → settled ≡ true → (c : List ℕ)
         → is_unfinished (l.session.subs c) ≡ false
@@ -153,16 +153,16 @@ module _ {cfg : Config} {table : NamespaceTable} {b : Code} {hubs : ℕ → Opti
         → AreTied cfg table b hubs peers (happens cfg m (event_by e x))
     unsettled settled is h =
         stays_by (nothing_happens cfg m x e (inr (cannot_unready cfg x asked m
-        (isn't_settled l seat.listed (λ quiet. by_both settled h (is.1 (λ c. waits_here c ∙ quiet c)))))))
+        (isn't_settled l address.listed (λ quiet. by_both settled h (is.1 (λ c. waits_here c ∙ quiet c)))))))
       where
         by_both : (v : Bool) → v ≡ false → IsTrue v → ⊥
         by_both true h k = absurd (cc)
         by_both false h k = absurd (cc)
 
-    closed_here : not (is_open (seated hubs s)) ≡ l.session.closed
-    closed_here = ap not (open_at m.broker.lists (seated hubs s) l.session seat.says) ∙ not-not l.session.closed
+    closed_here : not (is_open (session_at hubs s)) ≡ l.session.closed
+    closed_here = ap not (open_at m.broker.lists (session_at hubs s) l.session address.says) ∙ not-not l.session.closed
 
-    module _ (p : Peer) (found : peers x ≡ Some p) (sits : p.seat ≡ Some s) where
+    module _ (p : Peer) (found : peers x ≡ Some p) (sits : p.address ≡ Some s) where
       here : ShowsPeer p l
       here = client_here t x p found
 
@@ -176,7 +176,7 @@ module _ {cfg : Config} {table : NamespaceTable} {b : Code} {hubs : ℕ → Opti
       abbrev pub Lacks : Bool → Type 0
       Lacks lacks = call_fault (state_of p.client) ≡ None → lacks ≡ lacks_by table (sent_by e p) m.broker
 
-      lacks_by_parts : (lacks closed : Bool) → Lacks lacks → closed ≡ not (is_open (seated hubs s))
+      lacks_by_parts : (lacks closed : Bool) → Lacks lacks → closed ≡ not (is_open (session_at hubs s))
           → call_fault (state_of p.client) ≡ None
           → (lacks && not closed) ≡ lacks_epoch (judgement cfg x asked m) asked m.broker
       lacks_by_parts lacks closed is shut none =
@@ -184,7 +184,7 @@ module _ {cfg : Config} {table : NamespaceTable} {b : Code} {hubs : ℕ → Opti
           ∙ (λ i. lacks_by (t.namespaces i) (command_same i) m.broker && not (closed_here i))
           ∙ sym (lacks_is cfg m x asked)
 
-      pub unopened : (lacks closed : Bool) → Lacks lacks → closed ≡ not (is_open (seated hubs s))
+      pub unopened : (lacks closed : Bool) → Lacks lacks → closed ≡ not (is_open (session_at hubs s))
           → (lacks && not closed) ≡ true → AreTied cfg table b hubs peers (happens cfg m (event_by e x))
       unopened lacks closed is shut h =
           stays_by (not_opened cfg m x e (state_of p.client) here.client connected
@@ -198,7 +198,7 @@ module _ {cfg : Config} {table : NamespaceTable} {b : Code} {hubs : ℕ → Opti
           (sym (not_sent cfg m x e (state_of p.client) here.client connected n.refused)) (record {
             namespaces = t.namespaces;
             broker = t.broker;
-            nodes = subst (λ (f : List ℕ → Option SessionAddress). ShowsNodes cfg hubs f m) (λ i y. sym (seats y) i)
+            nodes = subst (λ (f : List ℕ → Option SessionAddress). ShowsNodes cfg hubs f m) (λ i y. sym (addresses y) i)
                 t.nodes;
             clients = λ y. subst (λ (o : Option Peer). ShowsClient o (m.links y)) (sym (n.becomes.now y))
                 (with-all (λ z (o : Option Peer). ShowsClient o (m.links z)) peers x
@@ -206,9 +206,10 @@ module _ {cfg : Config} {table : NamespaceTable} {b : Code} {hubs : ℕ → Opti
                 y);
           })
         where
-          seats : (y : List ℕ) → seats_of peers' y ≡ seats_of peers y
-          seats y = seats-with peers peers' x (record p { client = n.becomes.client; session = n.becomes.session })
-              n.becomes.now y ∙ same-seats peers x p.seat (seat_here peers x p found) y
+          addresses : (y : List ℕ) → addresses_of peers' y ≡ addresses_of peers y
+          addresses y =
+              addresses-with peers peers' x (record p { client = n.becomes.client; session = n.becomes.session })
+              n.becomes.now y ∙ same-addresses peers x p.address (address_here peers x p found) y
 
           same : ShowsPeer (record p { client = n.becomes.client; session = n.becomes.session }) l
           same = record {
@@ -225,7 +226,7 @@ module _ {cfg : Config} {table : NamespaceTable} {b : Code} {hubs : ℕ → Opti
           (stays : Stays) (calls : CallsAreAlike m.broker.lists) (moves : MovesAreAlike m.broker.lists)
           (back : IsReadBack e)
           (settled : Bool) (is-settled : IsSettled settled) (yes : settled ≡ true)
-          (lacks closed : Bool) (is_lacks : Lacks lacks) (is_closed : closed ≡ not (is_open (seated hubs s)))
+          (lacks closed : Bool) (is_lacks : Lacks lacks) (is_closed : closed ≡ not (is_open (session_at hubs s)))
           (opens : (lacks && not closed) ≡ false)
           (text : List ℕ) (peers' : List ℕ → Option Peer) (sent : Sent e x text p peers peers') where
         abbrev request : ClientRequest
@@ -256,7 +257,7 @@ module _ {cfg : Config} {table : NamespaceTable} {b : Code} {hubs : ℕ → Opti
         happens_is : happens cfg m (event_by e x) ≡ exchange cfg x request m
         happens_is =
             exchange_happens cfg m x e can.0
-            (can_send cfg x asked m (is_settled l s.node seat.at quiet) can.1 seat.up
+            (can_send cfg x asked m (is_settled l s.node address.at quiet) can.1 address.up
             (sym (lacks_by_parts lacks closed is_lacks is_closed can.2) ∙ opens))
             ∙ ap (λ (v : Client). exchange cfg x (request_by e v) m) (sym here.client)
 

@@ -24,14 +24,14 @@ use Rattle.cf_world.specs.BrokerTie.{Stands}
 use Rattle.cf_world.specs.ClientTie.{ShowsClient}
 use Rattle.cf_world.specs.HubCalls.{AtHub, Checked, Delivered, Finished}
 use Rattle.cf_world.specs.NodesTie.{IsAway, ShowsNodes}
-use Rattle.cf_world.specs.Tie.{AreTied, seats_of}
+use Rattle.cf_world.specs.Tie.{AreTied, addresses_of}
 use Rattle.cf_world.specs.declared.broker.AcceptedPublication.{AcceptedPublication}
 use Rattle.cf_world.specs.declared.broker.WorldBroker.{WorldBroker as Code}
 use Rattle.cf_world.specs.declared.clients.Peer.{Peer}
 use Rattle.cf_world.specs.declared.clients.SessionAddress.{SessionAddress}
 use Rattle.cf_client.specs.ClientView.{state_of}
 use Rattle.cf_world.proofs.Ends.{checks_keeps, finishes_keeps}
-use Rattle.cf_world.proofs.NodesTie.{away_shows, both_name, deliver_goes, met_name, nodes_same, seat_shows}
+use Rattle.cf_world.proofs.NodesTie.{away_shows, both_name, deliver_goes, met_name, nodes_same, address_shows}
 use Rattle.cf_world.proofs.Owned.{check-rest, checks-own, comes-own, finish-rest, finishes-own}
 use Rattle.cf_world.proofs.Sitting.{hub_there, session-may-go}
 
@@ -42,17 +42,18 @@ module _ {cfg : Config} {table : NamespaceTable} {b : Code} {hubs : ℕ → Opti
   pub rests : (e : Event) → allows cfg m e ≡ false → AreTied cfg table b hubs peers (happens cfg m e)
   rests e no' = rw no' t
 
-  pub opens-away : (x : List ℕ) → seats_of peers x ≡ None → IsAway (m.links x)
+  pub opens-away : (x : List ℕ) → addresses_of peers x ≡ None → IsAway (m.links x)
   opens-away x none = away_shows t.nodes x none
 
-  pub finish-away : (x c : List ℕ) → seats_of peers x ≡ None
+  pub finish-away : (x c : List ℕ) → addresses_of peers x ≡ None
       → AreTied cfg table b hubs peers (happens cfg m (Finish x c))
   finish-away x c none = rests (Finish x c) (ap (λ (d : Session). is_ready (d.subs c)) (opens-away x none).session)
 
-  pub check-away : (x c : List ℕ) → seats_of peers x ≡ None → AreTied cfg table b hubs peers (happens cfg m (Check x c))
+  pub check-away : (x c : List ℕ) → addresses_of peers x ≡ None
+      → AreTied cfg table b hubs peers (happens cfg m (Check x c))
   check-away x c none = rests (Check x c) (ap (λ (d : Session). is_on (d.subs c)) (opens-away x none).session)
 
-  pub finish-goes : CallsAreAlike m.broker.lists → (x c : List ℕ) (s : SessionAddress) → seats_of peers x ≡ Some s
+  pub finish-goes : CallsAreAlike m.broker.lists → (x c : List ℕ) (s : SessionAddress) → addresses_of peers x ≡ Some s
       → (hubs' : ℕ → Option Node)
       → AtHub s.node (Finished s.session c) hubs hubs' → AreTied cfg table b hubs' peers (happens cfg m (Finish x c))
   finish-goes calls x c s sat hubs' at =
@@ -67,7 +68,7 @@ module _ {cfg : Config} {table : NamespaceTable} {b : Code} {hubs : ℕ → Opti
       (m.links x).session no')
 
   pub check-goes : CallsAreAlike m.broker.lists → MovesAreAlike m.broker.lists → (x c : List ℕ) (top : Option Position)
-      → top ≡ stands_at (m.broker.streams c) → (s : SessionAddress) → seats_of peers x ≡ Some s
+      → top ≡ stands_at (m.broker.streams c) → (s : SessionAddress) → addresses_of peers x ≡ Some s
       → (hubs' : ℕ → Option Node)
       → AtHub s.node (Checked s.session c top) hubs hubs' → AreTied cfg table b hubs' peers (happens cfg m (Check x c))
   check-goes calls moves x c top is s sat hubs' at =
@@ -103,7 +104,7 @@ module _ {cfg : Config} {table : NamespaceTable} {b : Code} {hubs : ℕ → Opti
   own_came c q (Some p) l false h = h
 
   with-deliveries : (n : ℕ) (c : List ℕ) (q : Position) (hubs' : ℕ → Option Node)
-      → ShowsNodes cfg hubs' (seats_of peers) (record m
+      → ShowsNodes cfg hubs' (addresses_of peers) (record m
       { links = λ x. if on_node n (m.links x).node then came c q (m.links x) else m.links x })
       → AreTied cfg table b hubs' peers (record m {
         links = λ x. if on_node n (m.links x).node then came c q (m.links x)
@@ -118,14 +119,14 @@ module _ {cfg : Config} {table : NamespaceTable} {b : Code} {hubs : ℕ → Opti
 
   -- nobody is at a node that isn't there
   nobody-at : (n : ℕ) → hubs n ≡ None → (x : List ℕ) → on_node n (m.links x).node ≡ false
-  nobody-at n none x = by_seat (seats_of peers x) refl
+  nobody-at n none x = by_address (addresses_of peers x) refl
     where
-      by_seat : (o : Option SessionAddress) → seats_of peers x ≡ o → on_node n (m.links x).node ≡ false
-      by_seat None e = ap (on_node n) (away_shows t.nodes x e).node
-      by_seat (Some s) e = elim (eqb_tells s.node n) [
+      by_address : (o : Option SessionAddress) → addresses_of peers x ≡ o → on_node n (m.links x).node ≡ false
+      by_address None e = ap (on_node n) (away_shows t.nodes x e).node
+      by_address (Some s) e = elim (eqb_tells s.node n) [
         | inl is ↦ let there = hub_there t x s e in
             absurd (let no' : None ≡ Some there.0 = sym none ∙ ap hubs (sym is.1) ∙ there.1 in cc)
-        | inr is ↦ ap (on_node n) (seat_shows t.nodes x s e).at ∙ is.0
+        | inr is ↦ ap (on_node n) (address_shows t.nodes x s e).at ∙ is.0
       ]
 
   deliver-at : CallsAreAlike m.broker.lists → (n : ℕ) (c e : List ℕ) (p : Placed) → IsListed m.broker.lists c e p
@@ -147,11 +148,11 @@ module _ {cfg : Config} {table : NamespaceTable} {b : Code} {hubs : ℕ → Opti
         links = λ x. if on_node n (m.links x).node then came c (at_offset e p) (m.links x)
             else m.links x;
       } in
-      let nodes : ShowsNodes cfg hubs (seats_of peers) m2 =
+      let nodes : ShowsNodes cfg hubs (addresses_of peers) m2 =
       nodes_same t.nodes m2 (λ j. refl) (λ j. refl) refl refl
       (λ x. ap (λ (b : Bool). if b then came c (at_offset e p) (m.links x) else m.links x) (nobody-at n was x)) in
       with-deliveries n c (at_offset e p) hubs'
-      (subst (λ (f : ℕ → Option Node). ShowsNodes cfg f (seats_of peers) m2) (λ i j. sym (same was j) i) nodes)
+      (subst (λ (f : ℕ → Option Node). ShowsNodes cfg f (addresses_of peers) m2) (λ i j. sym (same was j) i) nodes)
 
   deliver-by : CallsAreAlike m.broker.lists → (n : ℕ) (a : Option AcceptedPublication) (p : Option Place)
       → Stands m.broker.lists a p → (hubs' : ℕ → Option Node)
@@ -163,7 +164,7 @@ module _ {cfg : Config} {table : NamespaceTable} {b : Code} {hubs : ℕ → Opti
       record {
         namespaces = t.namespaces;
         broker = t.broker;
-        nodes = subst (λ (f : ℕ → Option Node). ShowsNodes cfg f (seats_of peers) m) (λ i j. sym (none refl j) i)
+        nodes = subst (λ (f : ℕ → Option Node). ShowsNodes cfg f (addresses_of peers) m) (λ i j. sym (none refl j) i)
             t.nodes;
         clients = t.clients;
       }

@@ -40,26 +40,26 @@ use Rattle.cf_world.specs.Acting.{TakesRead}
 use Rattle.cf_world.specs.BrokerTie.{Reads}
 use Rattle.cf_world.specs.ClientTie.{ShowsClient, ShowsPeer}
 use Rattle.cf_world.specs.HubCalls.{Finished, Hubs, Moves, WasRead, who_in}
-use Rattle.cf_world.specs.NodesTie.{ShowsNodes, seated}
+use Rattle.cf_world.specs.NodesTie.{ShowsNodes, session_at}
 use Rattle.cf_world.specs.Sending.{PeerMoves}
 use Rattle.cf_world.specs.Serving.{AreServed, IsServed, IsServedAt, Rests, wait_script}
 use Rattle.cf_world.specs.Stepping.{Steps}
-use Rattle.cf_world.specs.Tie.{AreTied, seats_of}
+use Rattle.cf_world.specs.Tie.{AreTied, addresses_of}
 use Rattle.cf_world.specs.declared.broker.WorldBroker.{WorldBroker as Code}
 use Rattle.cf_world.specs.declared.clients.Peer.{Peer}
 use Rattle.cf_world.specs.declared.clients.SessionAddress.{SessionAddress}
 use Rattle.cf_world.proofs.AtHubs.{moved}
-use Rattle.cf_world.proofs.Breaking.{seats-with}
-use Rattle.cf_world.proofs.Exchanging.{same-seats}
+use Rattle.cf_world.proofs.Breaking.{addresses-with}
+use Rattle.cf_world.proofs.Exchanging.{same-addresses}
 use Rattle.cf_world.proofs.Going.{Stays}
 use Rattle.cf_world.proofs.Looking.{open_at, ready_at, waits_at}
-use Rattle.cf_world.proofs.NodesTie.{seat_shows}
+use Rattle.cf_world.proofs.NodesTie.{address_shows}
 use Rattle.cf_world.proofs.ReadGoes.{read-goes, read-set-up}
 use Rattle.cf_world.proofs.Reading.{Missing}
 use Rattle.cf_world.proofs.Running.{step-calls, step-served}
 use Rattle.cf_world.proofs.Served.{finish-goes, rests}
-use Rattle.cf_world.proofs.ServedStill.{seated-was, served-one}
-use Rattle.cf_world.proofs.Sitting.{client_here, seat_here}
+use Rattle.cf_world.proofs.ServedStill.{session_at-was, served-one}
+use Rattle.cf_world.proofs.Sitting.{client_here, address_here}
 use Rattle.cf_world.proofs.Waiting.{named-by, open-is, push-waits, unfinished-is, waits-more, waits-same}
 
 some-is : {A : Type 0} {a b : A} → Some a ≡ Some b → a ≡ b
@@ -78,7 +78,7 @@ names-it : {B : Type 0} (who : Who) (c : List ℕ) (u : Subscription B) (x : Scr
 names-it who c Off x e = absurd (cc (e))
 names-it who c (Asked id since b) x e = ap channel_next (sym (some-is e))
 names-it who c (Ready id was r b) x e = ap channel_next (sym (some-is e))
-names-it who c (On p mark) x e = absurd (cc (e))
+names-it who c (On p behind_at) x e = absurd (cc (e))
 
 abbrev script-in : Progress → Option Script
 script-in (Todo s) = Some s
@@ -125,14 +125,14 @@ module _ (who : Who) (w : Wording Held Item) (c : List ℕ) (r : Reading) (a : S
   read-waits-at (Asked id since b) h =
       ap (wait_script who c) (with-same a.subs c (Ready id (is_some since) r (w.with_read b)))
   read-waits-at (Ready id was r' b) h = absurd (cc (h))
-  read-waits-at (On p mark) h = absurd (cc (h))
+  read-waits-at (On p behind_at) h = absurd (cc (h))
 
   read-others-at : (u : Subscription Held) → is_asked u ≡ true → (d : List ℕ) → d ≢ c
       → (read_at w c r u a).subs d ≡ a.subs d
   read-others-at Off h d ne = refl
   read-others-at (Asked id since b) h d ne = with-other a.subs c (Ready id (is_some since) r (w.with_read b)) d ne
   read-others-at (Ready id was r' b) h d ne = refl
-  read-others-at (On p mark) h d ne = refl
+  read-others-at (On p behind_at) h d ne = refl
 
 record AskedOf (a : Answer) (u : Subscription Held) : Type 0 where
   id : ℕ
@@ -143,7 +143,7 @@ asked-so : (a : Answer) (u : Subscription Held) → asked_of u ≡ Some a → As
 asked-so a Off e = absurd (cc (e))
 asked-so a (Asked id since b) e = record { id = id; kept = b; is = ap (λ (z : Answer). Asked id z.since b) (some-is e) }
 asked-so a (Ready id was r b) e = absurd (cc (e))
-asked-so a (On p mark) e = absurd (cc (e))
+asked-so a (On p behind_at) e = absurd (cc (e))
 
 read-served : (t : NamespaceTable) (k : ℕ) (c : List ℕ) (r : Recovery) (h g : Node) (s f : Session)
     (v : IsServed t (attached_at h k) s) (a : Answer) → asked_of (sub_at h k c) ≡ Some a → WasRead k c r h g
@@ -171,24 +171,25 @@ read-served t k c r h g s f v a asked read tables goes = by_state (attached_at h
 module _ {cfg : Config} {table : NamespaceTable} {b : Code} {hubs : Hubs} {peers : List ℕ → Option Peer} {m : World}
     (t : AreTied cfg table b hubs peers m) where
   -- a session that waits for something is open
-  pub open-there : (x : List ℕ) (s : SessionAddress) → seats_of peers x ≡ Some s → (c : List ℕ)
-      → is_unfinished (sub_in (seated hubs s) c) ≡ true → is_open (seated hubs s) ≡ true
+  pub open-there : (x : List ℕ) (s : SessionAddress) → addresses_of peers x ≡ Some s → (c : List ℕ)
+      → is_unfinished (sub_in (session_at hubs s) c) ≡ true → is_open (session_at hubs s) ≡ true
   open-there x s sat c waits =
-      let seat = seat_shows t.nodes x s sat in
-      open_at m.broker.lists (seated hubs s) (m.links x).session seat.says ∙ by_value (m.links x).session.closed refl
+      let address = address_shows t.nodes x s sat in
+      open_at m.broker.lists (session_at hubs s) (m.links x).session address.says
+      ∙ by_value (m.links x).session.closed refl
     where
       by_value : (shut : Bool) → (m.links x).session.closed ≡ shut → not shut ≡ true
       by_value false e = refl
       by_value true e =
-          let seat = seat_shows t.nodes x s sat in
-          absurd (off-waits ((m.links x).session.subs c) (seat.shut e c)
-          (sym (waits_at m.broker.lists (seated hubs s) (m.links x).session seat.says c) ∙ waits))
+          let address = address_shows t.nodes x s sat in
+          absurd (off-waits ((m.links x).session.subs c) (address.shut e c)
+          (sym (waits_at m.broker.lists (session_at hubs s) (m.links x).session address.says c) ∙ waits))
         where
           off-waits : {B : Type 0} (u : Subscription B) → is_off u ≡ true → is_unfinished u ≡ true → ⊥
           off-waits Off h i = absurd (cc (i))
           off-waits (Asked id since k) h i = absurd (cc (h))
           off-waits (Ready id was r k) h i = absurd (cc (h))
-          off-waits (On p mark) h i = absurd (cc (h))
+          off-waits (On p behind_at) h i = absurd (cc (h))
 
   -- the session of one client alone changes
   pub session-changes : {peers' : List ℕ → Option Peer} {x : List ℕ} {p : Peer} (f : Session)
@@ -196,13 +197,14 @@ module _ {cfg : Config} {table : NamespaceTable} {b : Code} {hubs : Hubs} {peers
   session-changes {peers'} {x} {p} f pv = record {
     namespaces = t.namespaces;
     broker = t.broker;
-    nodes = subst (λ (ss : List ℕ → Option SessionAddress). ShowsNodes cfg hubs ss m) (λ i y. sym (seats y) i) t.nodes;
+    nodes = subst (λ (ss : List ℕ → Option SessionAddress). ShowsNodes cfg hubs ss m) (λ i y. sym (addresses y) i)
+        t.nodes;
     clients = λ y. subst (λ (o : Option Peer). ShowsClient o (m.links y)) (sym (pv.now y)) (by_name y);
   }
     where
-      seats : (y : List ℕ) → seats_of peers' y ≡ seats_of peers y
-      seats y = seats-with peers peers' x (record p { session = f }) pv.now y
-          ∙ same-seats peers x p.seat (seat_here peers x p pv.was) y
+      addresses : (y : List ℕ) → addresses_of peers' y ≡ addresses_of peers y
+      addresses y = addresses-with peers peers' x (record p { session = f }) pv.now y
+          ∙ same-addresses peers x p.address (address_here peers x p pv.was) y
 
       by_name : (y : List ℕ) → ShowsClient (with peers x (Some (record p { session = f })) y) (m.links y)
       by_name y = elim (text_tells y x) [
@@ -223,7 +225,7 @@ pub read-done : {cfg : Config} {table : NamespaceTable} {b : Code} {hubs hubs' :
     (t : AreTied cfg table b hubs peers m) (are : AreServed cfg.namespaces hubs peers) (x c : List ℕ)
     (s : SessionAddress) {h g : Node} {p : Peer} (f : Session) (a : Answer) (new : Code) {more : Bool}
     (u : Moves s.node h g hubs hubs') (pv : PeerMoves x p (record p { session = f }) peers peers')
-    (sits : p.seat ≡ Some s)
+    (sits : p.address ≡ Some s)
     → asked_of (sub_at h s.session c) ≡ Some a → can_open c m.broker ≡ true → Steps s.session p.session f b new h g more
     → AreFresh m.broker
     → Stays → Missing → ((lists : Lists) → CallsAreAlike lists) → ((lists : Lists) → MovesAreAlike lists)
@@ -231,8 +233,8 @@ pub read-done : {cfg : Config} {table : NamespaceTable} {b : Code} {hubs hubs' :
 read-done {cfg} {table} {b} {hubs} {hubs'} {peers} {peers'} {m} t are x c s {h} {g} {p} f a new u pv sits asked can st
     fresh stays missing calls moved-alike =
     let so = asked-so a (sub_at h s.session c) asked in
-    let sat : seats_of peers x ≡ Some s = seat_here peers x p pv.was ∙ sits in
-    let here : seated hubs s ≡ attached_at h s.session = seated-was s u in
+    let sat : addresses_of peers x ≡ Some s = address_here peers x p pv.was ∙ sits in
+    let here : session_at hubs s ≡ attached_at h s.session = session_at-was s u in
     let waits : is_unfinished (sub_in (attached_at h s.session) c) ≡ true = ap is_unfinished so.is in
     let up : is_open (attached_at h s.session) ≡ true =
     ap is_open (sym here) ∙ open-there t x s sat c
@@ -262,7 +264,7 @@ read-done {cfg} {table} {b} {hubs} {hubs'} {peers} {peers'} {m} t are x c s {h} 
         → (tables_of f).namespaces ≡ cfg.namespaces → progress_of f ≡ Todo (after_read id c (Served (Some v.who)) d)
         → AreTied cfg table new hubs' peers' (happens cfg m (said.Read x c)) × AreServed cfg.namespaces hubs' peers'
     by_found (Some r) d id finds taken v kept goes =
-        let sat : seats_of peers x ≡ Some s = seat_here peers x p pv.was ∙ sits in
+        let sat : addresses_of peers x ≡ Some s = address_here peers x p pv.was ∙ sits in
         let tied = read-goes t x c s sat (Some a) (asks-it asked u.was) a.since refl stays missing calls moved-alike new
         r finds hubs' (moved u (WasRead s.session c r) taken.1) in
         let ready : progress_of f ≡ Todo (Ask (Finish c) (after_finish (Served (Some v.who)))) =
@@ -296,7 +298,7 @@ finish-waits : (who : Who) (hit : Bool) (c : List ℕ) (a b : SessionState Held 
     → wait_script who d (b.subs d) ≡ wait_script who d (a.subs d))
 finish-waits who hit c a b Off h f up = absurd (cc (h))
 finish-waits who hit c a b (Asked id since k) h f up = absurd (cc (h))
-finish-waits who hit c a b (On p mark) h f up = absurd (cc (h))
+finish-waits who hit c a b (On p behind_at) h f up = absurd (cc (h))
 finish-waits who hit c a b (Ready id was r k) h f up = by_said f.said
   where
     by_said : SaysAll hit (releasing f.run) (finish_notes (releasing f.run) c id was r k)
@@ -317,7 +319,7 @@ ready-script : (who : Who) (c : List ℕ) (u : Subscription Held) → is_ready u
 ready-script who c Off h = absurd (cc (h))
 ready-script who c (Asked id since b) h = absurd (cc (h))
 ready-script who c (Ready id was r b) h = refl
-ready-script who c (On p mark) h = absurd (cc (h))
+ready-script who c (On p behind_at) h = absurd (cc (h))
 
 finish-served : (t : NamespaceTable) (k : ℕ) (c : List ℕ) (h g : Node) (s f : Session)
     (v : IsServed t (attached_at h k) s) → is_ready (sub_at h k c) ≡ true → Finished k c h g
@@ -356,15 +358,15 @@ pub finish-done : {cfg : Config} {table : NamespaceTable} {b : Code} {hubs hubs'
     (s : SessionAddress) {h g : Node} {p : Peer} (mid f : Session) (between new : Code) (j : Node)
     {more again : Bool}
     (u : Moves s.node h g hubs hubs') (pv : PeerMoves x p (record p { session = f }) peers peers')
-    (sits : p.seat ≡ Some s)
+    (sits : p.address ≡ Some s)
     → is_ready (sub_at h s.session c) ≡ true → Steps s.session p.session mid b between h j more
     → Steps s.session mid f between new j g again
     → ((lists : Lists) → CallsAreAlike lists)
     → AreTied cfg table new hubs' peers' (happens cfg m (said.Finish x c)) × AreServed cfg.namespaces hubs' peers'
 finish-done {cfg} {table} {b} {hubs} {hubs'} {peers} {peers'} {m} t are x c s {h} {g} {p} mid f between new j u pv sits
     ready first second calls =
-    let sat : seats_of peers x ≡ Some s = seat_here peers x p pv.was ∙ sits in
-    let here : seated hubs s ≡ attached_at h s.session = seated-was s u in
+    let sat : addresses_of peers x ≡ Some s = address_here peers x p pv.was ∙ sits in
+    let here : session_at hubs s ≡ attached_at h s.session = session_at-was s u in
     let waits : is_unfinished (sub_in (attached_at h s.session) c) ≡ true = ready-waits (sub_at h s.session c) ready in
     let up : is_open (attached_at h s.session) ≡ true =
     ap is_open (sym here) ∙ open-there t x s sat c
@@ -392,15 +394,15 @@ finish-done {cfg} {table} {b} {hubs} {hubs'} {peers} {peers'} {m} t are x c s {h
     ready-waits Off k = absurd (cc (k))
     ready-waits (Asked id since l) k = refl
     ready-waits (Ready id was r l) k = refl
-    ready-waits (On q mark) k = absurd (cc (k))
+    ready-waits (On q behind_at) k = absurd (cc (k))
 
 -- a subscription that wasn't read isn't finished
 pub unread-rests : {cfg : Config} {table : NamespaceTable} {b : Code} {hubs : Hubs} {peers : List ℕ → Option Peer}
     {m : World}
     (t : AreTied cfg table b hubs peers m) (x c : List ℕ) (s : SessionAddress) {h g : Node} → Moves s.node h g hubs hubs
-    → seats_of peers x ≡ Some s → is_ready (sub_at h s.session c) ≡ false
+    → addresses_of peers x ≡ Some s → is_ready (sub_at h s.session c) ≡ false
     → AreTied cfg table b hubs peers (happens cfg m (said.Finish x c))
 unread-rests {m = m} t x c s u sat no' =
-    let seat = seat_shows t.nodes x s sat in
-    rests t (said.Finish x c) (sym (ready_at m.broker.lists _ (m.links x).session seat.says c)
-    ∙ ap (λ (o : Option Attached). is_ready (sub_in o c)) (seated-was s u) ∙ no')
+    let address = address_shows t.nodes x s sat in
+    rests t (said.Finish x c) (sym (ready_at m.broker.lists _ (m.links x).session address.says c)
+    ∙ ap (λ (o : Option Attached). is_ready (sub_in o c)) (session_at-was s u) ∙ no')

@@ -15,23 +15,25 @@ use Rattle.cf_machine.specs.Session.{Session}
 use Rattle.cf_machine.specs.World.{World}
 use Rattle.cf_world.specs.ClientTie.{IsOwn, ShowsClient, ShowsPeer}
 use Rattle.cf_world.specs.NodesTie.{ShowsNodes, name_of, session_in}
-use Rattle.cf_world.specs.Tie.{AreTied, seats_of}
+use Rattle.cf_world.specs.Tie.{AreTied, addresses_of}
 use Rattle.cf_world.specs.declared.broker.WorldBroker.{WorldBroker as Code}
 use Rattle.cf_world.specs.declared.clients.Peer.{Peer}
 use Rattle.cf_world.specs.declared.clients.SessionAddress.{SessionAddress}
 use Rattle.cf_world.proofs.Ends.{Keeps}
 use Rattle.cf_machine.proofs.Names.{with-all}
-use Rattle.cf_world.proofs.NodesTie.{nodes_same, seat_shows, session_goes, session_moves}
+use Rattle.cf_world.proofs.NodesTie.{nodes_same, address_shows, session_goes, session_moves}
 
 -- ---- the client of a name
 
-pub seat_here : (peers : List ℕ → Option Peer) (x : List ℕ) (p : Peer) → peers x ≡ Some p → seats_of peers x ≡ p.seat
-seat_here peers x p e = ap (option_and_then (λ (q : Peer). q.seat)) e
+pub address_here : (peers : List ℕ → Option Peer) (x : List ℕ) (p : Peer) → peers x ≡ Some p
+    → addresses_of peers x ≡ p.address
+address_here peers x p e = ap (option_and_then (λ (q : Peer). q.address)) e
 
-pub seat_found : (o : Option Peer) (s : SessionAddress) → option_and_then (λ (q : Peer). q.seat) o ≡ Some s → (p : Peer)
-    × (o ≡ Some p) × (p.seat ≡ Some s)
-seat_found None s e = absurd (cc)
-seat_found (Some p) s e = (p, refl, e)
+pub address_found : (o : Option Peer) (s : SessionAddress) → option_and_then (λ (q : Peer). q.address) o ≡ Some s
+    → (p : Peer)
+    × (o ≡ Some p) × (p.address ≡ Some s)
+address_found None s e = absurd (cc)
+address_found (Some p) s e = (p, refl, e)
 
 there_by : (lists : Lists) (o : Option Node) (k : ℕ) (b : Session) → SaysAt lists (session_in o k) b → (h : Node)
     × (o ≡ Some h)
@@ -45,15 +47,16 @@ Owns g = (s : State) (b : Session) → All (IsOwn s) b.notes → All (IsOwn s) (
 module _ {cfg : Config} {table : NamespaceTable} {b : Code} {hubs : ℕ → Option Node} {peers : List ℕ → Option Peer}
     {m : World}
     (t : AreTied cfg table b hubs peers m) where
-  -- the hub of a seat
-  pub hub_there : (x : List ℕ) (s : SessionAddress) → seats_of peers x ≡ Some s → (h : Node) × (hubs s.node ≡ Some h)
-  hub_there x s sat = let g = seat_shows t.nodes x s sat in
+  -- the hub of an address
+  pub hub_there : (x : List ℕ) (s : SessionAddress) → addresses_of peers x ≡ Some s → (h : Node)
+      × (hubs s.node ≡ Some h)
+  hub_there x s sat = let g = address_shows t.nodes x s sat in
       there_by m.broker.lists (hubs s.node) s.session (m.links x).session g.says
 
   pub client_here : (x : List ℕ) (p : Peer) → peers x ≡ Some p → ShowsPeer p (m.links x)
   client_here x p e = subst (λ (o : Option Peer). ShowsClient o (m.links x)) e (t.clients x)
 
-  module _ (x : List ℕ) (s : SessionAddress) (sat : seats_of peers x ≡ Some s) (h h' : Node)
+  module _ (x : List ℕ) (s : SessionAddress) (sat : addresses_of peers x ≡ Some s) (h h' : Node)
       (was : hubs s.node ≡ Some h)
       (hubs' : ℕ → Option Node) (now : hubs' s.node ≡ Some h') (others : (j : ℕ) → j ≢ s.node → hubs' j ≡ hubs j)
       (same : SameNode h h') (none : h'.refused ≡ 0) (stay : OthersStay s.session h h')
@@ -61,11 +64,11 @@ module _ {cfg : Config} {table : NamespaceTable} {b : Code} {hubs : ℕ → Opti
       (g : Session → Session) (keeps : Keeps g) (owns : Owns g)
       (says : (d : Session) → SaysAt m.broker.lists (attached_at h s.session) d
       → SaysAt m.broker.lists (attached_at h' s.session) (g d)) where
-    after : ShowsNodes cfg hubs' (seats_of peers) (at_session x g m)
+    after : ShowsNodes cfg hubs' (addresses_of peers) (at_session x g m)
     after =
         session_goes t.nodes s.node h h' was hubs' now others x s sat refl same none stay name
         (with_session (g (m.links x).session) (m.links x))
-        (session_moves (seat_shows t.nodes x s sat) g keeps) (λ d. says (m.links x).session d)
+        (session_moves (address_shows t.nodes x s sat) g keeps) (λ d. says (m.links x).session d)
 
     own_by : (o : Option Peer) → peers x ≡ o → ShowsClient o (m.links x)
         → ShowsClient o (with_session (g (m.links x).session) (m.links x))

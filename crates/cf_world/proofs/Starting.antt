@@ -16,7 +16,7 @@ use Rattle.cf_world.specs.BrokerTie.{ShowsBroker}
 use Rattle.cf_world.specs.ClientTie.{ShowsClient}
 use Rattle.cf_world.specs.HubCalls.{AreNew}
 use Rattle.cf_world.specs.NodesTie.{ShowsLink, session_in}
-use Rattle.cf_world.specs.Tie.{AreTied, seats_of}
+use Rattle.cf_world.specs.Tie.{AreTied, addresses_of}
 use Rattle.cf_world.specs.declared.broker.WorldBroker.{WorldBroker as Code}
 use Rattle.cf_world.specs.declared.clients.Peer.{Peer}
 use Rattle.cf_world.specs.declared.clients.SessionAddress.{SessionAddress}
@@ -73,21 +73,21 @@ starts nodes table kept same b hubs peers shows new count none = record {
           refused = ap (λ (z : Node). z.refused) is;
         };
     links = λ x. subst (λ (o : Option SessionAddress). ShowsLink table start.broker.lists (slice_get hubs) o
-        (start.links x)) (sym (no-seat x)) (record {
+        (start.links x)) (sym (no-address x)) (record {
           node = refl;
           session = refl;
           channels = refl;
           way = refl;
           up = refl;
         });
-    apart = λ x y s e f. absurd (let no' : None ≡ Some s = sym (no-seat x) ∙ e in cc);
+    apart = λ x y s e f. absurd (let no' : None ≡ Some s = sym (no-address x) ∙ e in cc);
     onto = λ n k e. absurd (let no' : false ≡ true = sym
         (no-session (slice_get hubs n) k (λ h f. (n, new-at n hubs h new f))) ∙ e in cc);
-    among = λ x s e. absurd (let no' : None ≡ Some s = sym (no-seat x) ∙ e in cc);
+    among = λ x s e. absurd (let no' : None ≡ Some s = sym (no-address x) ∙ e in cc);
     distinct = tt;
   };
   clients = λ x. subst (λ (o : Option Peer). ShowsClient o (start.links x)) (sym (none x)) refl;
 }
   where
-    no-seat : (x : List ℕ) → seats_of peers x ≡ None
-    no-seat x = ap (option_and_then (λ (p : Peer). p.seat)) (none x)
+    no-address : (x : List ℕ) → addresses_of peers x ≡ None
+    no-address x = ap (option_and_then (λ (p : Peer). p.address)) (none x)

@@ -17,16 +17,16 @@ use Rattle.cf_machine.specs.IntervalMachine.{allows, happens, has_any}
 use Rattle.cf_machine.specs.Told.{entries, first_items, tells, writes}
 use Rattle.cf_machine.specs.Trace.{Closed}
 use Rattle.cf_machine.specs.World.{World, link_with}
-use Rattle.cf_world.specs.ClientTie.{IsOwn, Unseats}
+use Rattle.cf_world.specs.ClientTie.{IsOwn, ClearsAddress}
 use Rattle.cf_world.specs.HubCalls.{AtHub, Gone, Taken}
 use Rattle.cf_world.specs.NodesTie.{session_in}
-use Rattle.cf_world.specs.Tie.{AreTied, seats_of}
+use Rattle.cf_world.specs.Tie.{AreTied, addresses_of}
 use Rattle.cf_world.specs.declared.broker.WorldBroker.{WorldBroker as Code}
 use Rattle.cf_world.specs.declared.clients.Peer.{Peer}
 use Rattle.cf_world.specs.declared.clients.SessionAddress.{SessionAddress}
 use Rattle.cf_world.proofs.Breaking.{breaks-goes}
 use Rattle.cf_world.proofs.Ends.{takes_keeps}
-use Rattle.cf_world.proofs.NodesTie.{one_name, seat_shows}
+use Rattle.cf_world.proofs.NodesTie.{one_name, address_shows}
 use Rattle.cf_world.proofs.Served.{opens-away, rests}
 use Rattle.cf_world.proofs.Sitting.{Owns, hub_there, session-may-go}
 
@@ -43,21 +43,21 @@ module _ {cfg : Config} {table : NamespaceTable} {b : Code} {hubs : ℕ → Opti
   no-take : allows cfg m (Take x) ≡ false → (k : ℕ) → [] ≡ writes cfg k m (Take x)
   no-take none k = sym (ap (λ (v : Bool). if v then tells k m (Take x) else []) none)
 
-  away : seats_of peers x ≡ None → allows cfg m (Take x) ≡ false
+  away : addresses_of peers x ≡ None → allows cfg m (Take x) ≡ false
   away none = ap (λ (o : Option ℕ). is_some o && has_any (m.links x).session.notes) (opens-away t x none).node
 
-  pub take-away : seats_of peers x ≡ None → AreTied cfg table b hubs peers (happens cfg m (Take x))
+  pub take-away : addresses_of peers x ≡ None → AreTied cfg table b hubs peers (happens cfg m (Take x))
   take-away none = rests t (Take x) (away none)
 
-  pub writes-away : seats_of peers x ≡ None → (k : ℕ) → [] ≡ writes cfg k m (Take x)
+  pub writes-away : addresses_of peers x ≡ None → (k : ℕ) → [] ≡ writes cfg k m (Take x)
   writes-away none = no-take (away none)
 
-  module _ (s : SessionAddress) (sat : seats_of peers x ≡ Some s) where
+  module _ (s : SessionAddress) (sat : addresses_of peers x ≡ Some s) where
     pub says-there : (h : Node) → hubs s.node ≡ Some h
         → SaysAt m.broker.lists (attached_at h s.session) (m.links x).session
     says-there h was =
         subst (λ (z : Option Attached). SaysAt m.broker.lists z (m.links x).session)
-        (ap (λ (z : Option Node). session_in z s.session) was) (seat_shows t.nodes x s sat).says
+        (ap (λ (z : Option Node). session_in z s.session) was) (address_shows t.nodes x s sat).says
 
     both-no : (p q : Bool) → q ≡ false → (p && q) ≡ false
     both-no true q e = e
@@ -88,7 +88,7 @@ module _ {cfg : Config} {table : NamespaceTable} {b : Code} {hubs : ℕ → Opti
 
     module _ (code : ℕ) (rest : List Note) (front : (m.links x).session.notes ≡ Close code ∷ rest) where
       may : allows cfg m (Take x) ≡ true
-      may = ap (λ (o : Option ℕ). is_some o && has_any (m.links x).session.notes) (seat_shows t.nodes x s sat).at
+      may = ap (λ (o : Option ℕ). is_some o && has_any (m.links x).session.notes) (address_shows t.nodes x s sat).at
           ∙ ap has_any front
 
       held : holds (m.links x) ≡ hold_first (Close code ∷ rest) (m.links x)
@@ -99,14 +99,14 @@ module _ {cfg : Config} {table : NamespaceTable} {b : Code} {hubs : ℕ → Opti
           ap receives held
           ∙ ap (λ (ws : List Note). receive_first (ws ++ Close code ∷ [])
           (record (m.links x) { session = takes_front (m.links x).session; way = ws ++ Close code ∷ [] }))
-          (seat_shows t.nodes x s sat).way
+          (address_shows t.nodes x s sat).way
 
       pub writes-close : (k : ℕ) → entries k x (Closed code ∷ []) ≡ writes cfg k m (Take x)
       writes-close k =
           sym (ap (λ (v : Bool). if v then tells k m (Take x) else []) may
           ∙ ap (λ (ws : List Note). entries k x (first_items m.broker.lists (m.links x).client ws))
           (ap (λ (l : ClientLink). l.way) held ∙ ap (λ (ws : List Note). ws ++ Close code ∷ [])
-          (seat_shows t.nodes x s sat).way))
+          (address_shows t.nodes x s sat).way))
 
       gone-through : (hubs' hubs'' : ℕ → Option Node) → AtHub s.node (Taken s.session) hubs hubs'
           → AtHub s.node (Gone s.session) hubs' hubs'' → AtHub s.node (Gone s.session) hubs hubs''
@@ -131,10 +131,10 @@ module _ {cfg : Config} {table : NamespaceTable} {b : Code} {hubs : ℕ → Opti
 
       pub take-close : (hubs' hubs'' : ℕ → Option Node) → AtHub s.node (Taken s.session) hubs hubs'
           → AtHub s.node (Gone s.session) hubs' hubs'' → (peers' : List ℕ → Option Peer)
-          → ((p : Peer) → peers x ≡ Some p → Unseats x p peers peers')
+          → ((p : Peer) → peers x ≡ Some p → ClearsAddress x p peers peers')
           → AreTied cfg table b hubs'' peers' (happens cfg m (Take x))
-      take-close hubs' hubs'' first second peers' unseats =
+      take-close hubs' hubs'' first second peers' clears_address =
           subst (λ (w : World). AreTied cfg table b hubs'' peers' w)
           (sym (ap (λ (v : Bool). if v then link_with x (receives (holds (m.links x))) m else m) may
           ∙ ap (λ (l : ClientLink). link_with x l m) broken))
-          (breaks-goes t x s sat hubs'' (gone-through hubs' hubs'' first second) peers' unseats)
+          (breaks-goes t x s sat hubs'' (gone-through hubs' hubs'' first second) peers' clears_address)

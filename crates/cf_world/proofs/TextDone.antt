@@ -33,7 +33,7 @@ use Rattle.cf_world.specs.Judging as judged
 use Rattle.cf_world.specs.Judging.{Judged, Judges}
 use Rattle.cf_world.specs.Sending.{Acts, HasSent, IsSent, PeerMoves, SendsAs, left_of}
 use Rattle.cf_world.specs.Serving.{AreServed, IsClients, IsServed, IsServedAt, Plays, Rests, ServesAs, ServesText}
-use Rattle.cf_world.specs.Tie.{AreTied, seats_of}
+use Rattle.cf_world.specs.Tie.{AreTied, addresses_of}
 use Rattle.cf_world.specs.declared.broker.WorldBroker.{WorldBroker as Code}
 use Rattle.cf_world.specs.declared.client_command.ClientCommand.{ClientCommand}
 use Rattle.cf_world.specs.declared.client_command.ClientCommand.TheVariants as client_command
@@ -46,7 +46,7 @@ use Rattle.cf_world.proofs.Reading.{Missing}
 use Rattle.cf_world.proofs.Running.{plays-tables}
 use Rattle.cf_world.proofs.Sends.{is_regular}
 use Rattle.cf_world.proofs.SentSo.{by-judged}
-use Rattle.cf_world.proofs.ServedStill.{seated-was, served-one}
+use Rattle.cf_world.proofs.ServedStill.{session_at-was, served-one}
 
 -- what can be sent at all
 may-call : (idle : Bool) (o : Option ClientFault) → (if idle then o else Some NotNow) ≡ None → o ≡ None
@@ -78,7 +78,7 @@ module _ {cfg : Config} {table : NamespaceTable} {b : Code} {hubs hubs' : Hubs} 
     (t : AreTied cfg table b hubs peers m) (are : AreServed cfg.namespaces hubs peers) (x : List ℕ) (e : ClientCommand)
     (s : SessionAddress) {h g : Node} {p q : Peer} (f : Session) (text : List ℕ)
     (u : Moves s.node h g hubs hubs') (pv : PeerMoves x p (record q { session = f }) peers peers')
-    (sits : p.seat ≡ Some s) (sent : HasSent table b h s.session e p q text)
+    (sits : p.address ≡ Some s) (sent : HasSent table b h s.session e p q text)
     (laws : (k : Command) → IsRegularCommand k → IsCommands (command_text k) (k ∷ []))
     (alone : (k : Command) (ks : List Command) → IsRegularCommand k → IsCommands (command_text k) ks → ks ≡ k ∷ [])
     (stays : Stays) (calls : (lists : PublicationLists) → CallsAreAlike lists)
@@ -96,7 +96,8 @@ module _ {cfg : Config} {table : NamespaceTable} {b : Code} {hubs hubs' : Hubs} 
   pub was-served : is_open (attached_at h s.session) ≡ true
       → IsServed cfg.namespaces (attached_at h s.session) p.session
   was-served =
-      subst (λ (o : Option Attached). IsServedAt cfg.namespaces o p.session) (seated-was s u) (are x p s pv.was sits)
+      subst (λ (o : Option Attached). IsServedAt cfg.namespaces o p.session) (session_at-was s u)
+      (are x p s pv.was sits)
 
   pub it-rests : (up : is_open (attached_at h s.session) ≡ true) → Rests (was-served up).who p.session
   it-rests up = (was-served up).rests sent.settled
@@ -108,14 +109,15 @@ module _ {cfg : Config} {table : NamespaceTable} {b : Code} {hubs hubs' : Hubs} 
   by-the hubs2 j2 u2 j closed is judges acts =
       by-judged t x e s u2 pv sits laws alone stays (calls m.broker.lists) (moves m.broker.lists) back true
       ((λ k. sent.settled), (λ k. refl)) refl sent.lacks (not (is_open (attached_at h s.session)))
-      (sent.is_lacks cfg.namespaces m.broker t.broker) refl sent.opens text sent.allowed sent.said sent.seat sent.state
+      (sent.is_lacks cfg.namespaces m.broker t.broker) refl sent.opens text sent.allowed sent.said sent.address
+      sent.state
       sent.apart sent.since j closed is judges acts
 
-  apart : (y z : List ℕ) (w : SessionAddress) → seats_of peers y ≡ Some w → seats_of peers z ≡ Some w → y ≡ z
+  apart : (y z : List ℕ) (w : SessionAddress) → addresses_of peers y ≡ Some w → addresses_of peers z ≡ Some w → y ≡ z
   apart = t.nodes.apart
 
-  sits-now : q'.seat ≡ Some s
-  sits-now = sent.seat ∙ sits
+  sits-now : q'.address ≡ Some s
+  sits-now = sent.address ∙ sits
 
   not-up : (up : Bool) → up ≡ true → false ≡ not up
   not-up true h = refl
@@ -175,7 +177,7 @@ pub text-unheard : {cfg : Config} {table : NamespaceTable} {b : Code} {hubs : Hu
     {peers peers' : List ℕ → Option Peer} {m : World}
     (t : AreTied cfg table b hubs peers m) (are : AreServed cfg.namespaces hubs peers) (x : List ℕ) (e : ClientCommand)
     (s : SessionAddress) {h : Node} {p q : Peer} (text : List ℕ)
-    (was : hubs s.node ≡ Some h) (pv : PeerMoves x p q peers peers') (sits : p.seat ≡ Some s)
+    (was : hubs s.node ≡ Some h) (pv : PeerMoves x p q peers peers') (sits : p.address ≡ Some s)
     (sent : HasSent table b h s.session e p q text)
     (laws : (k : Command) → IsRegularCommand k → IsCommands (command_text k) (k ∷ []))
     (alone : (k : Command) (ks : List Command) → IsRegularCommand k → IsCommands (command_text k) ks → ks ≡ k ∷ [])
@@ -188,5 +190,5 @@ text-unheard {hubs = hubs} {peers = peers} t are x e s {h} {p} {q} text was pv s
     let u : Moves s.node h h hubs hubs = record { was = was; now = was; others = λ j ne. refl } in (
       by-the t are x e s q.session text u pv sits sent laws alone stays calls moves back hubs h u judged.Unheard true
           (sym (ap not down)) refl refl,
-      served-one are t.nodes.apart x s u (λ j ne. refl) pv sits (sent.seat ∙ sits) (λ up. absurd (cc (down, up))),
+      served-one are t.nodes.apart x s u (λ j ne. refl) pv sits (sent.address ∙ sits) (λ up. absurd (cc (down, up))),
     )

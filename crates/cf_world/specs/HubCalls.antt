@@ -120,7 +120,7 @@ pub record Sits (k : ℕ) (h g : Node) : Type 0 where
   pub opens : Opens k user moment h g
 
 -- there is no room for one more
-pub record NoSeat (h g : Node) : Type 0 where
+pub record StaysFull (h g : Node) : Type 0 where
   pub sound : IsSound h
   pub full : NoRoom h
   pub stays : (k : ℕ) → attached_at g k ≡ attached_at h k
@@ -131,7 +131,7 @@ pub record NoSeat (h g : Node) : Type 0 where
 abbrev pub Attaches : ℕ → Option ℕ → Hubs → Hubs → Type 0
 Attaches n Option.None old new =
     ((old n ≡ Option.None) × ((j : ℕ) → new j ≡ old j))
-    ⊎ ((h : Node) × (old n ≡ Some h) × OneHub n NoSeat old new h)
+    ⊎ ((h : Node) × (old n ≡ Some h) × OneHub n StaysFull old new h)
 Attaches n (Some k) old new = (h : Node) × (old n ≡ Some h) × OneHub n (Sits k) old new h
 
 -- ---- a command is answered

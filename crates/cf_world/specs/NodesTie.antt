@@ -18,13 +18,13 @@ use Rattle.cf_machine.specs.Session.{Session}
 use Rattle.cf_machine.specs.World.{World}
 use Rattle.cf_world.specs.declared.clients.SessionAddress.{SessionAddress}
 
--- the session of a seat, if there is one
+-- the session of an address, if there is one
 abbrev pub session_in : Option Node → ℕ → Option Attached
 session_in None k = None
 session_in (Some h) k = attached_at h k
 
-abbrev pub seated : (ℕ → Option Node) → SessionAddress → Option Attached
-seated hubs s = session_in (hubs s.node) s.session
+abbrev pub session_at : (ℕ → Option Node) → SessionAddress → Option Attached
+session_at hubs s = session_in (hubs s.node) s.session
 
 abbrev pub name_of : Option Attached → Option (List ℕ)
 name_of o = option_map (λ a. a.badge.client) o
@@ -45,9 +45,9 @@ pub record IsAway (l : ClientLink) : Type 0 where
   pub way : l.way ≡ []
   pub up : l.up ≡ []
 
--- a client that is connected has the session of its seat, and an id there; its channels pass the checks, and are
+-- a client that is connected has the session of its address, and an id there; its channels pass the checks, and are
 -- listed once
-pub record IsSeated (table : NamespaceTable) (lists : Lists) (o : Option Attached) (node : ℕ)
+pub record IsAtAddress (table : NamespaceTable) (lists : Lists) (o : Option Attached) (node : ℕ)
     (l : ClientLink) : Type 0 where
   pub at : l.node ≡ Some node
   pub name : name_of o ≡ Some l.name
@@ -62,7 +62,7 @@ pub record IsSeated (table : NamespaceTable) (lists : Lists) (o : Option Attache
 
 abbrev pub ShowsLink : NamespaceTable → Lists → (ℕ → Option Node) → Option SessionAddress → ClientLink → Type 0
 ShowsLink table lists hubs None l = IsAway l
-ShowsLink table lists hubs (Some s) l = IsSeated table lists (seated hubs s) s.node l
+ShowsLink table lists hubs (Some s) l = IsAtAddress table lists (session_at hubs s) s.node l
 
 -- node n, which never met a refused request for memory
 pub record IsNode (n : ℕ) (h : Node) (m : World) : Type 0 where
@@ -72,14 +72,14 @@ pub record IsNode (n : ℕ) (h : Node) (m : World) : Type 0 where
   pub few : h.used ≤ largest
   pub refused : h.refused ≡ 0
 
-pub record ShowsNodes (cfg : Config) (hubs : ℕ → Option Node) (seats : List ℕ → Option SessionAddress)
+pub record ShowsNodes (cfg : Config) (hubs : ℕ → Option Node) (addresses : List ℕ → Option SessionAddress)
     (m : World) : Type 0 where
   pub nodes : (n : ℕ) → is_some (hubs n) ≡ nat_lt n cfg.nodes
   pub hub : (n : ℕ) (h : Node) → hubs n ≡ Some h → IsNode n h m
-  pub links : (x : List ℕ) → ShowsLink cfg.namespaces m.broker.lists hubs (seats x) (m.links x)
+  pub links : (x : List ℕ) → ShowsLink cfg.namespaces m.broker.lists hubs (addresses x) (m.links x)
   -- each session is one client's, and each client is known
-  pub apart : (x y : List ℕ) (s : SessionAddress) → seats x ≡ Some s → seats y ≡ Some s → x ≡ y
+  pub apart : (x y : List ℕ) (s : SessionAddress) → addresses x ≡ Some s → addresses y ≡ Some s → x ≡ y
   pub onto : (n k : ℕ) → is_some (session_in (hubs n) k) ≡ true
-      → (x : List ℕ) × (seats x ≡ Some (record { node = n; session = k }))
-  pub among : (x : List ℕ) (s : SessionAddress) → seats x ≡ Some s → is_among x m.clients ≡ true
+      → (x : List ℕ) × (addresses x ≡ Some (record { node = n; session = k }))
+  pub among : (x : List ℕ) (s : SessionAddress) → addresses x ≡ Some s → is_among x m.clients ≡ true
   pub distinct : AreDistinct m.clients

@@ -22,7 +22,7 @@ use Rattle.cf_world.specs.HubCalls.{Closed, Told, error_text, who_in}
 use Rattle.cf_world.specs.Judging as judged
 use Rattle.cf_world.specs.Judging.{Judged, Judges}
 use Rattle.cf_world.specs.Stepping.{StaysLong, Steps}
-use Rattle.cf_world.specs.NodesTie.{seated}
+use Rattle.cf_world.specs.NodesTie.{session_at}
 use Rattle.cf_world.specs.declared.broker.WorldBroker.{WorldBroker as Code}
 use Rattle.cf_world.specs.declared.clients.Peer.{Peer}
 use Rattle.cf_world.specs.declared.clients.SessionAddress.{SessionAddress}
@@ -35,7 +35,7 @@ abbrev pub wait_script : {B : Type 0} → Who → List ℕ → Subscription B �
 wait_script who c Off = None
 wait_script who c (Asked id since b) = Some (to_read id c since (Served (Some who)))
 wait_script who c (Ready id was r b) = Some (to_finish c (Served (Some who)))
-wait_script who c (On p mark) = None
+wait_script who c (On p behind_at) = None
 
 pub record Rests (who : Who) (s : Session) : Type 0 where
   pub idle : is_idle s ≡ true
@@ -115,8 +115,8 @@ Greets id s text t reply =
 
 -- ---- the sessions of all clients
 
--- each client that has a seat has its session there, which its hub's shows if that is open
+-- each client that has an address has its session there, which its hub's shows if that is open
 abbrev pub AreServed : NamespaceTable → (ℕ → Option Node) → (List ℕ → Option Peer) → Type 0
 AreServed table hubs peers =
-    (x : List ℕ) (p : Peer) (s : SessionAddress) → peers x ≡ Some p → p.seat ≡ Some s
-    → IsServedAt table (seated hubs s) p.session
+    (x : List ℕ) (p : Peer) (s : SessionAddress) → peers x ≡ Some p → p.address ≡ Some s
+    → IsServedAt table (session_at hubs s) p.session

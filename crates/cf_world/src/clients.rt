@@ -3,7 +3,7 @@ ghost use Rattle.std.specs.Prelude.{◌≡◌, ℕ, List, Some, map, IfOk, OnOk,
 ghost use Rattle.std.specs.BTreeMap.{get_by_text};
 ghost use Rattle.cf_client.specs.Shown.{shown_item};
 ghost use Rattle.cf_session.specs.Standing.{is_idle};
-ghost use Rattle.cf_world.specs.ClientTie.{Heard, Joins, LeavesNode, Unseats, state_before};
+ghost use Rattle.cf_world.specs.ClientTie.{Heard, Joins, LeavesNode, ClearsAddress, state_before};
 ghost use Rattle.cf_world.specs.declared.clients.Peer.{Peer as AnyPeer};
 
 use crate::client_command::ClientCommand;
@@ -29,7 +29,7 @@ pub struct SessionAddress {
 #[derive(Drop)]
 pub(crate) struct Peer<'a> {
     pub(crate) client: Client,
-    pub(crate) seat: Option<SessionAddress>,
+    pub(crate) address: Option<SessionAddress>,
     pub(crate) session: Session<'a>,
 }
 
@@ -38,35 +38,35 @@ pub(crate) fn join<'a>(
     alloc: Global,
     clients: &mut BTreeMap<String, Peer<'a>>,
     name: &str,
-    seat: SessionAddress,
+    address: SessionAddress,
     session: Session<'a>,
     id: String,
 ) -> Result<(), Short>
     requires { is_idle session ≡ true }
     ensures { OnOk result
-        (Joins name.now seat (string_bytes id) session.entry (state_before (get_by_text clients.old name.now))
+        (Joins name.now address (string_bytes id) session.entry (state_before (get_by_text clients.old name.now))
         (get_by_text clients.old) (get_by_text clients.new)) }
 {
     if let Some(peer) = clients.get_mut(name) {
         peer.session = session;
-        return peer.join(seat, id);
+        return peer.join(address, id);
     }
     let key = String::from_str(alloc, name)?;
     let client = Client::new(alloc);
     let mut peer = Peer {
         client,
-        seat: None,
+        address: None,
         session,
     };
-    peer.join(seat, id)?;
+    peer.join(address, id)?;
     clients.insert(key, peer)?;
     Ok(())
 }
 
 /// The connection of a client is gone.
-pub(crate) fn unseat(clients: &mut BTreeMap<String, Peer<'_>>, name: &str)
+pub(crate) fn clear_address(clients: &mut BTreeMap<String, Peer<'_>>, name: &str)
     ensures { (p : AnyPeer) → get_by_text clients.old name.now ≡ Some p
-        → Unseats name.now p (get_by_text clients.old) (get_by_text clients.new) }
+        → ClearsAddress name.now p (get_by_text clients.old) (get_by_text clients.new) }
 {
     if let Some(peer) = clients.get_mut(name) {
         peer.break_off();
@@ -74,7 +74,7 @@ pub(crate) fn unseat(clients: &mut BTreeMap<String, Peer<'_>>, name: &str)
 }
 
 /// The connections to a node are gone.
-pub(crate) fn unseat_all(clients: &mut BTreeMap<String, Peer<'_>>, node: u8)
+pub(crate) fn clear_addresses(clients: &mut BTreeMap<String, Peer<'_>>, node: u8)
     ensures { (y : List ℕ)
         → LeavesNode node (get_by_text clients.old y) (get_by_text clients.new y) }
 {
@@ -118,18 +118,18 @@ impl Peer<'_> {
 
     fn break_off(&mut self)
         ensures state { state_of self.new.client ≡ reconnected (state_of self.old.client) }
-        ensures seat { self.new.seat ≡ None }
+        ensures address { self.new.address ≡ None }
         ensures session { self.new.session ≡ self.old.session }
     {
         self.client.reconnect();
-        self.seat = None;
+        self.address = None;
     }
 
     fn leave_node(&mut self, node: u8)
         ensures { LeavesAs node self.old self.new }
     {
-        if let Some(seat) = self.seat
-            && seat.node == node
+        if let Some(address) = self.address
+            && address.node == node
         {
             self.break_off();
         }
@@ -137,11 +137,11 @@ impl Peer<'_> {
 
     // The client connects here, and its session, which is new, hears the text and is attached under this id. The reply
     // is no news to the client.
-    fn join(&mut self, seat: SessionAddress, id: String) -> Result<(), Short>
+    fn join(&mut self, address: SessionAddress, id: String) -> Result<(), Short>
         requires { is_idle self.old.session ≡ true }
         ensures state { OnOk result (state_of self.new.client
             ≡ connected (state_of self.old.client)) }
-        ensures seat { OnOk result (self.new.seat ≡ Some seat) }
+        ensures address { OnOk result (self.new.address ≡ Some address) }
         ensures session { OnOk result (Meets (string_bytes id) self.old.session self.new.session) }
     {
         commands_read_back();
@@ -151,7 +151,7 @@ impl Peer<'_> {
         let Some(_reply) = greet(&mut self.session, text.as_str(), id)? else {
             return Err(Short);
         };
-        self.seat = Some(seat);
+        self.address = Some(address);
         Ok(())
     }
 
@@ -164,7 +164,7 @@ impl Peer<'_> {
             (state_of self.old.client)) }
         ensures refused { RefusedBy (send_fault command.now (state_of self.old.client)) result }
         ensures err { OnErr result (state_of self.new.client ≡ state_of self.old.client) }
-        ensures seat { self.new.seat ≡ self.old.seat }
+        ensures address { self.new.address ≡ self.old.address }
         ensures session { self.new.session ≡ self.old.session }
         ensures apart { AreApart (state_of self.old.client).client }
         ensures since { AsksFrom (request_by command.now (state_of self.old.client).client) }

@@ -6,7 +6,7 @@ ghost use Rattle.cf_machine.specs.Event as said;
 ghost use Rattle.cf_world.specs.Tie.{GoesOn};
 
 use crate::broker::NOW;
-use crate::clients::{SessionAddress, join, unseat, unseat_all};
+use crate::clients::{SessionAddress, clear_address, clear_addresses, join};
 use crate::out_of_memory::Short;
 use crate::world::WorldParts;
 use cf_hub::laws::{calls_are_alike, sessions_are_counted};
@@ -21,7 +21,7 @@ impl WorldParts<'_> {
     {
         calls_are_alike();
         sessions_are_counted();
-        if let Some(_seat) = self.seat(name) {
+        if let Some(_address) = self.address(name) {
             return Ok(());
         }
         let Some(hub) = self.hubs.get_mut(node as usize) else {
@@ -31,9 +31,9 @@ impl WorldParts<'_> {
         match hub.attach(String::new(self.alloc), NOW) {
             Ok(session) => {
                 let id = id_at(hub, self.alloc, session)?;
-                let seat = SessionAddress { node, session };
+                let address = SessionAddress { node, session };
                 let waits = Session::without_tokens(self.alloc, self.namespaces);
-                join(self.alloc, &mut self.clients, name, seat, waits, id)
+                join(self.alloc, &mut self.clients, name, address, waits, id)
             }
             Err(HubRefusal::TooMany) => Ok(()),
             Err(_) => Err(Short),
@@ -44,12 +44,12 @@ impl WorldParts<'_> {
     pub fn break_off(&mut self, name: &str)
         ensures { GoesOn (said.Break name.now) self.old self.new }
     {
-        let Some(seat) = self.seat(name) else {
+        let Some(address) = self.address(name) else {
             return;
         };
-        if let Some(hub) = self.hubs.get_mut(seat.node as usize) {
-            let _gone = hub.detach(seat.session);
-            unseat(&mut self.clients, name);
+        if let Some(hub) = self.hubs.get_mut(address.node as usize) {
+            let _gone = hub.detach(address.session);
+            clear_address(&mut self.clients, name);
         }
     }
 
@@ -65,7 +65,7 @@ impl WorldParts<'_> {
             return Err(Short);
         };
         *hub = Hub::new(self.alloc, node, boot);
-        unseat_all(&mut self.clients, node);
+        clear_addresses(&mut self.clients, node);
         Ok(())
     }
 }

@@ -2,7 +2,7 @@
 ghost use Rattle.std.specs.Prelude.{[], ◌∷◌};
 ghost use Rattle.cf_protocol.specs.Fields.{object_or_none};
 ghost use Rattle.cf_protocol.specs.Reading.{Answers, AreMembers, HasValue, OfFields, OfValue};
-ghost use Rattle.cf_protocol.specs.Reply.{answer_from, code_in, push_from, pushes_of, reply_from, reply_of};
+ghost use Rattle.cf_protocol.specs.Reply.{answer_from, code_in, push_from, pushes_of, outgoing_from, outgoing_in};
 ghost use Rattle.cf_protocol.specs.Shown.{shown_outgoing, told, told_pushed};
 
 use crate::fault::ReadFault;
@@ -17,7 +17,7 @@ use std::alloc::Global;
 /// The reply or push that a value is; none for a push of a kind that isn't known, which is passed over.
 pub fn read_outgoing(alloc: Global, text: &str, span: Span) -> Result<Option<Outgoing>, ReadFault>
     requires { HasValue text.now span }
-    ensures { OfValue text.now span (λ t. Answers told result (reply_of t)) }
+    ensures { OfValue text.now span (λ t. Answers told result (outgoing_in t)) }
 {
     let members = Members::of(alloc, text, span)?;
     read_from(alloc, &members)
@@ -26,7 +26,7 @@ pub fn read_outgoing(alloc: Global, text: &str, span: Span) -> Result<Option<Out
 /// The reply or push that has these members. An object without members is the ping.
 fn read_from(alloc: Global, members: &Members<'_>) -> Result<Option<Outgoing>, ReadFault>
     requires { AreMembers members.now }
-    ensures { OfFields members.now (λ fs. Answers told result (reply_from fs)) }
+    ensures { OfFields members.now (λ fs. Answers told result (outgoing_from fs)) }
 {
     if members.found.is_empty() {
         return Ok(Some(Outgoing::Ping));

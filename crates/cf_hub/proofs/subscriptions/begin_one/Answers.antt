@@ -20,7 +20,7 @@ is_none : (o : Option Progress) → is_off (sub_of o) ≡ true → o ≡ None
 is_none None e = refl
 is_none (Some (code.Asked id since waiting)) e = absurd (cc)
 is_none (Some (code.Ready id was recovery waiting)) e = absurd (cc)
-is_none (Some (code.On at mark)) e = absurd (cc)
+is_none (Some (code.On at behind_at)) e = absurd (cc)
 
 pub add-requires : goal.add-requires
 add-requires c =

@@ -19,9 +19,9 @@ returns-clause-ticks c = λ is_aside site s n now numbers old new h d.
     (past old.sessions) (bounded old)
 
 pub returns-clause-attaches : goal.returns-clause-attaches
-returns-clause-attaches c = λ is_aside site s n j now numbers old new user client h o none seat there.
+returns-clause-attaches c = λ is_aside site s n j now numbers old new user client h o none its_connection there.
     attaches is_aside site s n numbers old h new j now user
-    (c.hub_moves_are_sections.ensures is_aside (lists_of site s)) o none client seat there
+    (c.hub_moves_are_sections.ensures is_aside (lists_of site s)) o none client its_connection there
 
 pub returns-clause-wanders : goal.returns-clause-wanders
 returns-clause-wanders c = λ is_aside site s n j now numbers old new user h o none there.

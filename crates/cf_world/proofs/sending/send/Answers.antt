@@ -36,7 +36,7 @@ pub returns-in-Err-NotNow-clause-sends : goal.returns-in-Err-NotNow-clause-sends
 returns-in-Err-NotNow-clause-sends c = λ cfg m x n hubs peers peers' is pv sits t.
     let was : c.send.result ≡ Err NotNow = search rules in
     unsent-so t x c.args.command.now (record { node = n; session = c.args.session }) (looked is) pv sits refl
-    c.send.ensures.seat c.in-Err-NotNow.ensures.err
+    c.send.ensures.address c.in-Err-NotNow.ensures.err
     (refused-some (String Global) (send_fault c.args.command.now (state_of c.args.peer.now.client)) NotNow
     (λ e. absurd (cc)) (subst (λ (r : Result (String Global) ClientFault). RefusedBy
     (send_fault c.args.command.now (state_of c.args.peer.now.client)) r) was c.send.ensures.refused))
@@ -45,7 +45,7 @@ pub returns-in-Err-AtLastId-clause-sends : goal.returns-in-Err-AtLastId-clause-s
 returns-in-Err-AtLastId-clause-sends c = λ cfg m x n hubs peers peers' is pv sits t.
     let was : c.send.result ≡ Err AtLastId = search rules in
     unsent-so t x c.args.command.now (record { node = n; session = c.args.session }) (looked is) pv sits refl
-    c.send.ensures.seat c.in-Err-AtLastId.ensures.err
+    c.send.ensures.address c.in-Err-AtLastId.ensures.err
     (refused-some (String Global) (send_fault c.args.command.now (state_of c.args.peer.now.client)) AtLastId
     (λ e. absurd (cc)) (subst (λ (r : Result (String Global) ClientFault). RefusedBy
     (send_fault c.args.command.now (state_of c.args.peer.now.client)) r) was c.send.ensures.refused))
@@ -60,7 +60,7 @@ returns-in-Ok-clause-sends c =
           (subst (λ (r : Result (String Global) ClientFault). RefusedBy
           (send_fault c.args.command.now (state_of c.args.peer.now.client)) r) was c.send.ensures.refused);
       said = c.in-Ok.ensures.text;
-      seat = c.send.ensures.seat;
+      address = c.send.ensures.address;
       session = c.send.ensures.session;
       state = c.in-Ok.ensures.ok;
       apart = c.send.ensures.apart;

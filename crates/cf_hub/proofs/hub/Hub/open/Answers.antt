@@ -1,4 +1,4 @@
--- The number is free, so to seat a session there changes nobody else, and its badge is the one that the definition
+-- The number is free, so to put a session there changes nobody else, and its badge is the one that the definition
 -- gives it.
 use Rattle.std.proofs.Common.{rules, ◌≡◌, ◌∙◌, ◌+◌, ℕ, Option, Some, None, List, sym, ap, string_bytes, is_some, false}
 use Rattle.std.proofs.Common.{option_map}

@@ -4,6 +4,7 @@ use Rattle.cf_hub.specs.Hub.{met_refusal}
 use Rattle.cf_hub.proofs.Walks.{twice}
 use Rattle.cf_hub.proofs.hub.Hub.push_for_all.Goals as goal
 
-pub returns-clause-noted : goal.returns-clause-noted
-returns-clause-noted c =
-    c.note.ensures ∙ ap (λ b. met_refusal b c.args.self.now) (twice c.is_none.result ∙ ap not (sym c.is_none.ensures))
+pub returns-clause-counts : goal.returns-clause-counts
+returns-clause-counts c =
+    c.count_refused.ensures ∙ ap (λ b. met_refusal b c.args.self.now)
+    (twice c.is_none.result ∙ ap not (sym c.is_none.ensures))

@@ -5,9 +5,9 @@ use Rattle.cf_json.specs.Grammar.{Tree}
 use Rattle.cf_json.specs.Frame.{IsFrame}
 use Rattle.cf_json.specs.Spans.{IsAt}
 use Rattle.cf_protocol.specs.declared.outgoing.Outgoing.{Outgoing as CodeOutgoing}
-use Rattle.cf_protocol.specs.Frame.{all_replies_of}
+use Rattle.cf_protocol.specs.Frame.{all_outgoing_in}
 use Rattle.cf_protocol.specs.Reading.{Stand}
-use Rattle.cf_protocol.specs.Reply.{reply_of}
+use Rattle.cf_protocol.specs.Reply.{outgoing_in}
 use Rattle.cf_protocol.specs.Shown.{shown_outgoing, told}
 use Rattle.cf_protocol.proofs.Frames.{is_frame, only_frame, no_frame, no_values, stopped}
 use Rattle.cf_protocol.proofs.ItemsRead.{beside, zip_length}
@@ -18,7 +18,7 @@ use Rattle.cf_protocol.proofs.read.frame.read_replies.Goals.{in-Some+in_ok-push,
 pub returns-in_err-spans-clause-bad : goal.returns-in_err-spans-clause-bad
 returns-in_err-spans-clause-bad c =
     let p = err_from_is_err_and c.from_residual.result c.from_residual.ensures.1 in
-    rw p.1 (λ e os. no_frame all_replies_of c.args.text.now c.in_err-spans.field-0.0 os c.in_err-spans.ensures.faults
+    rw p.1 (λ e os. no_frame all_outgoing_in c.args.text.now c.in_err-spans.field-0.0 os c.in_err-spans.ensures.faults
     (sym p.2 ∙ e))
 
 pub read_outgoing-requires : goal.read_outgoing-requires
@@ -40,10 +40,10 @@ returns-in_err-read-clause-bad c =
     let stops = λ (ts : List Tree) (stand : Stand text spans ts).
     let at = beside (λ s t. IsAt text t s) spans ts c.loop-span.span-index _ (record { from = 0; to = 0 }) stand
     c.loop-span-test.true refl in
-    stopped told shown e (reply_of at.item) (all_replies_of ts) (c.in_err-read.ensures at.item at.is)
+    stopped told shown e (outgoing_in at.item) (all_outgoing_in ts) (c.in_err-read.ensures at.item at.is)
     (told_stops ts c.loop-span.span-index c.loop-span.replies.items at.item (c.loop-span.invariant ts stand) at.at) in
     let p = err_from_is_err_and c.from_residual-in_err-read.result c.from_residual-in_err-read.ensures.1 in
-    rw p.1 (λ is os. no_values all_replies_of shown text spans e os stands stops (sym p.2 ∙ is))
+    rw p.1 (λ is os. no_values all_outgoing_in shown text spans e os stands stops (sym p.2 ∙ is))
 
 pub loop-span-preserved : goal.loop-span-preserved
 loop-span-preserved c ts stand =
@@ -70,7 +70,7 @@ returns-clause-found c =
     let found = c.in_ok-spans.ensures.found in
     let stand : Stand text spans found.0 = rw c.deref-span-items.ensures.value found.5 in
     let same = zip_length (λ s t. IsAt text t s) spans found.0 stand in
-    is_frame all_replies_of text c.in_ok-spans.spans.items found.0 (map shown_outgoing c.loop-span.replies.items)
+    is_frame all_outgoing_in text c.in_ok-spans.spans.items found.0 (map shown_outgoing c.loop-span.replies.items)
     (found.2, found.1, found.3) found.5
     (told_all found.0 c.loop-span.span-index c.loop-span.replies.items (c.loop-span.invariant found.0 stand)
     (omega arith))
@@ -82,7 +82,7 @@ returns-clause-only c os =
     let shown = map shown_outgoing c.loop-span.replies.items in
     let stands : (ts : List Tree) → IsFrame text ts → Stand text spans ts =
     λ ts h. rw c.deref-span-items.ensures.value (c.in_ok-spans.ensures.only ts h) in
-    let reads : (ts : List Tree) → Stand text spans ts → all_replies_of ts ≡ Some shown = λ ts stand.
+    let reads : (ts : List Tree) → Stand text spans ts → all_outgoing_in ts ≡ Some shown = λ ts stand.
     let same = zip_length (λ s t. IsAt text t s) spans ts stand in
     told_all ts c.loop-span.span-index c.loop-span.replies.items (c.loop-span.invariant ts stand) (omega arith) in
-    only_frame all_replies_of text spans shown os stands reads
+    only_frame all_outgoing_in text spans shown os stands reads

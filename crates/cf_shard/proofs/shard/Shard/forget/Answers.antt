@@ -3,16 +3,16 @@ use Rattle.cf_stream.specs.Streams.{stream_of}
 use Rattle.cf_shard.specs.Shard.{Lent}
 use Rattle.cf_shard.specs.ShardLog.{entries_of_forget}
 use Rattle.cf_shard.proofs.Opening.{fresh-more, none-if_stands}
-use Rattle.cf_shard.proofs.Calls.{if_stands_stood, noted, kept, one_by_log, follows}
+use Rattle.cf_shard.proofs.Calls.{if_stands_stood, logged, kept, one_by_log, follows}
 use Rattle.cf_shard.proofs.shard.Shard.forget.Given.{Over}
 use Rattle.cf_shard.proofs.shard.Shard.forget.Goals as goal
 
 -- what it makes of the owner
-made : (g : Over) (c : goal.After-note_on g)
-    → (c.note_on.new.owner.word ≡ c.self.inside.owner.word)
-    × (c.note_on.new.owner.log ≡ c.self.inside.owner.log ++ entries_of_forget c.self.inside.streams c.args.channel.now)
+made : (g : Over) (c : goal.After-log_on g)
+    → (c.log_on.new.owner.word ≡ c.self.inside.owner.word)
+    × (c.log_on.new.owner.log ≡ c.self.inside.owner.log ++ entries_of_forget c.self.inside.streams c.args.channel.now)
 made g c =
-    noted _ _ _ _ _ c.follow.ensures.owner c.note_on.ensures.owner
+    logged _ _ _ _ _ c.follow.ensures.owner c.log_on.ensures.owner
     (if_stands_stood c.self.inside.streams c.args.channel.now _ _ _ c.position.ensures.position
     c.top_of-stood.ensures)
 
@@ -32,16 +32,16 @@ returns-clause-makes g c = record {
 
 pub returns-clause-by_log : goal.returns-clause-by_log
 returns-clause-by_log g c =
-    one_by_log _ _ _ _ _ _ _ _ c.self.invariant.0 c.follow.ensures.seen.0 (c.note_on.ensures.whole.0 ∙ (made g c).1)
+    one_by_log _ _ _ _ _ _ _ _ c.self.invariant.0 c.follow.ensures.seen.0 (c.log_on.ensures.whole.0 ∙ (made g c).1)
 
 pub returns-clause-seen : goal.returns-clause-seen
 returns-clause-seen g c =
-    follows _ _ _ _ _ _ 0 c.follow.ensures.seen.0 c.follow.ensures.pass (made g c).1 c.note_on.ensures.whole
-    c.note_on.ensures.share
+    follows _ _ _ _ _ _ 0 c.follow.ensures.seen.0 c.follow.ensures.pass (made g c).1 c.log_on.ensures.whole
+    c.log_on.ensures.share
 
 pub returns-clause-stays : goal.returns-clause-stays
 returns-clause-stays g c = record {
   presence = ap (λ (s : Lent g.row.E.Denot). s.presence) c.self.view_is;
-  whole = c.note_on.ensures.whole.0;
+  whole = c.log_on.ensures.whole.0;
   state = rw (← c.self.view_is) c.self.invariant.0.state;
 }

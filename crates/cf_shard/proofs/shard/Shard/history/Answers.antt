@@ -4,7 +4,7 @@ use Rattle.std.proofs.lemmas.Int.{to_z-of_z}
 use Rattle.cf_stream.specs.ChannelLists.{ListsAt}
 use Rattle.cf_shard.specs.Shard.{Lent}
 use Rattle.cf_shard.proofs.Opening.{call-leads, fresh-opened, fresh-still}
-use Rattle.cf_shard.proofs.Calls.{opening_stood, noted, kept, still, history_by_log, follows}
+use Rattle.cf_shard.proofs.Calls.{opening_stood, logged, kept, still, history_by_log, follows}
 use Rattle.cf_shard.proofs.Refusals.{history_refused_by, left_by}
 use Rattle.cf_shard.proofs.Resizing.{stays_up}
 use Rattle.cf_stream.specs.LogState.{opening}
@@ -13,13 +13,13 @@ use Rattle.cf_shard.proofs.shard.Shard.history.Given.{Over}
 use Rattle.cf_shard.proofs.shard.Shard.history.Goals as goal
 
 -- what it makes of the owner
-made : (g : Over) (c : goal.After-note_opening g)
-    → (c.note_opening.new.owner.word ≡ c.self.inside.owner.word)
-    × (c.note_opening.new.owner.log ≡ c.self.inside.owner.log
+made : (g : Over) (c : goal.After-log_opening g)
+    → (c.log_opening.new.owner.word ≡ c.self.inside.owner.word)
+    × (c.log_opening.new.owner.log ≡ c.self.inside.owner.log
     ++ opening (stream_of c.self.inside.streams c.args.channel.now) c.args.channel.now
     c.in_ok-history.history.position.epoch [])
 made g c =
-    noted _ _ _ _ _ c.follow.ensures.owner c.note_opening.ensures.owner
+    logged _ _ _ _ _ c.follow.ensures.owner c.log_opening.ensures.owner
     (opening_stood c.self.inside.streams c.args.channel.now _ _ _ _ c.position.ensures.position
     c.top_of-stood.ensures)
 
@@ -60,7 +60,7 @@ returns-clause-by_log g c =
     let same = to_z-of_z w32 c.args.limit c.ranges.limit in
     history_by_log _ _ _ _ _ _ _ _ _ _ _ c.self.invariant.0
     (subst (λ (limit : ℤ). listed limit h.position h.publications.items) same c.in_ok-history.ensures.lists.answer)
-    c.follow.ensures.seen.0 (c.note_opening.ensures.whole.0 ∙ (made g c).1)
+    c.follow.ensures.seen.0 (c.log_opening.ensures.whole.0 ∙ (made g c).1)
 
 pub returns-clause-makes : goal.returns-clause-makes
 returns-clause-makes g c = record {
@@ -71,13 +71,13 @@ returns-clause-makes g c = record {
 
 pub returns-clause-seen : goal.returns-clause-seen
 returns-clause-seen g c =
-    follows _ _ _ _ _ _ 0 c.follow.ensures.seen.0 c.follow.ensures.pass (made g c).1 c.note_opening.ensures.whole
-    c.note_opening.ensures.share
+    follows _ _ _ _ _ _ 0 c.follow.ensures.seen.0 c.follow.ensures.pass (made g c).1 c.log_opening.ensures.whole
+    c.log_opening.ensures.share
 
 pub returns-clause-stays : goal.returns-clause-stays
 returns-clause-stays g c = record {
   presence = ap (λ (s : Lent g.row.E.Denot). s.presence) c.self.view_is;
-  whole = c.note_opening.ensures.whole.0;
+  whole = c.log_opening.ensures.whole.0;
   state = rw (← c.self.view_is) c.self.invariant.0.state;
 }
 

@@ -2,7 +2,7 @@ use Rattle.std.proofs.Common.{sym, ◌≡◌, ◌++◌, [], ap, ◌∙◌}
 use Rattle.std.proofs.lemmas.Result.{err_from_is_err_and}
 use Rattle.cf_shard.specs.Shard.{Lent}
 use Rattle.cf_shard.proofs.Opening.{call-leads, fresh-opened, fresh-still}
-use Rattle.cf_shard.proofs.Calls.{opening_stood, noted, kept, still, read_by_log, follows}
+use Rattle.cf_shard.proofs.Calls.{opening_stood, logged, kept, still, read_by_log, follows}
 use Rattle.cf_shard.proofs.Refusals.{left_by}
 use Rattle.cf_shard.proofs.Resizing.{stays_up}
 use Rattle.cf_stream.specs.LogState.{opening}
@@ -12,12 +12,12 @@ use Rattle.cf_shard.proofs.shard.Shard.read.Goals as goal
 
 -- what it makes of the owner
 made : (g : Over) (c : goal.After-count-mark g)
-    → (c.note_opening.new.owner.word ≡ c.self.inside.owner.word)
-    × (c.note_opening.new.owner.log ≡ c.self.inside.owner.log
+    → (c.log_opening.new.owner.word ≡ c.self.inside.owner.word)
+    × (c.log_opening.new.owner.log ≡ c.self.inside.owner.log
     ++ opening (stream_of c.self.inside.streams c.args.channel.now) c.args.channel.now
     c.in_ok-recovery.recovery.position.epoch [])
 made g c =
-    noted _ _ _ _ _ c.follow.ensures.owner c.note_opening.ensures.owner
+    logged _ _ _ _ _ c.follow.ensures.owner c.log_opening.ensures.owner
     (opening_stood c.self.inside.streams c.args.channel.now _ _ _ _ c.position.ensures.position
     c.top_of-stood.ensures)
 
@@ -50,17 +50,17 @@ returns-clause-answer g c = rw (← c.self.view_is) c.in_ok-recovery.ensures.lis
 pub returns-clause-by_log : goal.returns-clause-by_log
 returns-clause-by_log g c =
     read_by_log _ _ _ _ _ _ _ _ _ _ _ c.self.invariant.0 c.in_ok-recovery.ensures.lists.answer c.follow.ensures.seen.0
-    (c.note_opening.ensures.whole.0 ∙ (made g c).1)
+    (c.log_opening.ensures.whole.0 ∙ (made g c).1)
 
 pub returns-clause-seen : goal.returns-clause-seen
 returns-clause-seen g c =
-    follows _ _ _ _ _ _ 0 c.follow.ensures.seen.0 c.follow.ensures.pass (made g c).1 c.note_opening.ensures.whole
-    c.note_opening.ensures.share
+    follows _ _ _ _ _ _ 0 c.follow.ensures.seen.0 c.follow.ensures.pass (made g c).1 c.log_opening.ensures.whole
+    c.log_opening.ensures.share
 
 pub returns-clause-stays : goal.returns-clause-stays
 returns-clause-stays g c = record {
   presence = ap (λ (s : Lent g.row.E.Denot). s.presence) c.self.view_is;
-  whole = c.note_opening.ensures.whole.0;
+  whole = c.log_opening.ensures.whole.0;
   state = rw (← c.self.view_is) c.self.invariant.0.state;
 }
 

@@ -4,16 +4,16 @@ use Rattle.cf_stream.specs.Streams.{after_tick, all_due, stream_of}
 use Rattle.cf_shard.specs.Shard.{Lent}
 use Rattle.cf_shard.specs.ShardLog.{entries_of_tick}
 use Rattle.cf_shard.proofs.Opening.{fresh-more, none-due}
-use Rattle.cf_shard.proofs.Calls.{noted, kept, follows}
+use Rattle.cf_shard.proofs.Calls.{logged, kept, follows}
 use Rattle.cf_shard.proofs.Resizing.{seconds_stay}
 use Rattle.cf_shard.proofs.shard.Shard.tick.Given.{Over}
 use Rattle.cf_shard.proofs.shard.Shard.tick.Goals as goal
 
 -- what it makes of the owner
 made : (g : Over) (c : goal.After-tick-2 g)
-    → (c.note_due.new.owner.word ≡ c.self.inside.owner.word)
-    × (c.note_due.new.owner.log ≡ c.self.inside.owner.log ++ entries_of_tick c.self.inside.streams c.args.now)
-made g c = noted _ _ _ _ _ c.follow.ensures.owner c.note_due.ensures.owner (ap due_entries c.due-2.ensures.walk)
+    → (c.log_due.new.owner.word ≡ c.self.inside.owner.word)
+    × (c.log_due.new.owner.log ≡ c.self.inside.owner.log ++ entries_of_tick c.self.inside.streams c.args.now)
+made g c = logged _ _ _ _ _ c.follow.ensures.owner c.log_due.ensures.owner (ap due_entries c.due-2.ensures.walk)
 
 pub invariant_of-self-2 : goal.invariant_of-self-2
 invariant_of-self-2 g c = (
@@ -40,15 +40,15 @@ returns-clause-by_log g c = (
   record {
     before = c.self.inside.owner.log;
     begins = c.follow.ensures.seen.0;
-    gained = c.note_due.ensures.whole.0 ∙ (made g c).1;
+    gained = c.log_due.ensures.whole.0 ∙ (made g c).1;
     answered = tt;
   },
 )
 
 pub returns-clause-seen : goal.returns-clause-seen
 returns-clause-seen g c =
-    follows _ _ _ _ _ _ 0 c.follow.ensures.seen.0 c.follow.ensures.pass (made g c).1 c.note_due.ensures.whole
-    c.note_due.ensures.share
+    follows _ _ _ _ _ _ 0 c.follow.ensures.seen.0 c.follow.ensures.pass (made g c).1 c.log_due.ensures.whole
+    c.log_due.ensures.share
 
 pub returns-clause-whole : goal.returns-clause-whole
-returns-clause-whole g c = c.note_due.ensures.whole.0
+returns-clause-whole g c = c.log_due.ensures.whole.0

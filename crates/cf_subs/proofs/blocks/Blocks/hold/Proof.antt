@@ -85,7 +85,7 @@ hold_spec 𝓤 𝓛 𝓜 𝓡 wired T L =
     (λ (l : List (Held T.Denot)). ‵ (blocks_own R l)) (sym (append-nil n.held)) refl $ move ! (1 ∷ 0 ∷ []) $ use2 𝓛
     (‵ (blocks_own R (n.held ++ held p v ∷ []))) (steps.blocks_glue 𝓛 R n.held (held p v) []) $
     let n' : Ow.Denot =
-    record { mark = n.mark; held = n.held ++ held p v ∷ []; apart = apart_held p v n.held apart n.apart } in
+    record { marker = n.marker; held = n.held ++ held p v ∷ []; apart = apart_held p v n.held apart n.apart } in
     let out : Ar.Denot = record { ptr = p } in
     let G0 : Type 0 = found n.held p ≡ None in let G1 : Type 0 = n'.held ≡ n.held ++ held p v ∷ [] in
     -- [the blocks; the way back; T's token]

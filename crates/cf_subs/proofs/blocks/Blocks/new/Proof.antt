@@ -34,7 +34,7 @@ new_spec 𝓤 𝓛 𝓜 𝓡 wired T L =
     let hs : Stays En.signature.params En.kept = tt in
     proved_at 𝓛 En hs c 𝓜 𝓡 tt (#self inst) fn (code.unfolded 𝓤 H 𝓜 𝓡 wired (T, tt)) (λ z are.
     let κs = z.0.0 in let qs = z.0.1 in let Post : Val → SProp 𝓤 = (walk_of 𝓛 En hs c).post z in
-    let out : Ow.Denot = record { mark = record {}; held = []; apart = apart_none } in let G0 : Type 0 =
+    let out : Ow.Denot = record { marker = record {}; held = []; apart = apart_none } in let G0 : Type 0 =
     out.held ≡ [] in
     qed 𝓛 (((‵ (flft κs.0 qs.0) ⊛ ‵ ftrue) ⊛ ‵ (owns (types_at En.signature.params κs) z.0.3 z.0.4))
     ∷ raw ((c κs z.0.3).requires z.1) ∷ []) ∵ split ! $

@@ -85,7 +85,7 @@ put_spec 𝓤 𝓛 𝓜 𝓡 wired T L =
     ∙ put_cut xs h ys apart v) in
     let n' : Ow.Denot =
     record {
-      mark = n.mark;
+      marker = n.marker;
       held = new;
       apart = subst (λ l. IsApart (places l)) made (apart_put xs h ys apart v);
     } in

@@ -89,7 +89,7 @@ release_spec 𝓤 𝓛 𝓜 𝓡 wired T L =
     ∙ without_cut xs h ys apart) in
     let n' : Ow.Denot =
     record {
-      mark = n.mark;
+      marker = n.marker;
       held = new;
       apart = subst (λ l. IsApart (places l)) made (apart_without xs h ys apart);
     } in

@@ -1,9 +1,9 @@
 -- The number in the table of channels is that of the first row, by the invariant.
 use Rattle.std.proofs.Common.{◌∙◌}
-use Rattle.cf_subs.specs.Seats.{channel_of}
+use Rattle.cf_subs.specs.RowBlocks.{channel_of}
 use Rattle.cf_subs.proofs.Heads.{first_is}
 use Rattle.cf_subs.proofs.linked_rows.LinkedRows.first_in_channel.Goals as goal
 
 pub returns : goal.returns
 returns c = let r = c.args.self.now in
-    c.first.ensures ∙ first_is channel_of r.channels r.seats.blocks.held c.args.channel c.requires.whole.channels
+    c.first.ensures ∙ first_is channel_of r.channels r.row_blocks.blocks.held c.args.channel c.requires.whole.channels

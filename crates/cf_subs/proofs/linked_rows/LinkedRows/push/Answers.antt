@@ -7,13 +7,13 @@ use Rattle.cf_subs.specs.declared.linked_row.LinkedRow.{LinkedRow}
 use Rattle.cf_subs.specs.declared.table.Row.{Row}
 use Rattle.cf_subs.specs.Ends.{IsHeaded, SetsAt, grown}
 use Rattle.cf_subs.specs.Held.{Held, held}
-use Rattle.cf_subs.specs.Seats.{channel_of, session_of, rows_of}
+use Rattle.cf_subs.specs.RowBlocks.{channel_of, session_of, rows_of}
 use Rattle.cf_subs.proofs.Heads.{headed_push}
 use Rattle.cf_subs.proofs.linked_rows.LinkedRows.push.Goals as goal
 
 pub returns-clause-whole : goal.returns-clause-whole
 returns-clause-whole c =
-    let hs = c.args.self.now.seats.blocks.held in let n = held c.link-at.result.ptr c.in_ok-block.block.value in
+    let hs = c.args.self.now.row_blocks.blocks.held in let n = held c.link-at.result.ptr c.in_ok-block.block.value in
     let channels = c.reserve.new.self in let sessions = c.reserve-2.new.self in
     let same : c.args.row ≡ c.in_ok-block.block.value.row = search rules in
     let by_channel : IsHeaded channel_of channels hs = search rules in
@@ -31,7 +31,7 @@ returns-clause-whole c =
 
 pub returns-clause-ok : goal.returns-clause-ok
 returns-clause-ok c =
-    let hs = c.args.self.now.seats.blocks.held in
+    let hs = c.args.self.now.row_blocks.blocks.held in
     let same : c.args.row ≡ c.in_ok-block.block.value.row = search rules in
     c.link-at.ensures.lists.rows ∙ map-append (λ (h : Held LinkedRow). h.value.row) hs
     (held c.link-at.result.ptr c.in_ok-block.block.value ∷ []) ∙ ap (λ (r : Row). rows_of hs ++ r ∷ []) (sym same)

@@ -4,8 +4,8 @@ use Rattle.lru.specs.Linked.{IsApart}
 use Rattle.cf_subs.specs.declared.linked_row.LinkedRow.{LinkedRow}
 use Rattle.cf_subs.specs.Held.{Held, held, places}
 use Rattle.cf_subs.specs.Threads.{IsHeld, changed, last_of, nowhere}
-use Rattle.cf_subs.specs.Seats.{AreLinked, after_in_channel, after_in_session, channel_of, session_of, rows_of}
-use Rattle.cf_subs.specs.Seats.{with_block, SameEnds}
+use Rattle.cf_subs.specs.RowBlocks.{AreLinked, after_in_channel, after_in_session, channel_of, session_of, rows_of}
+use Rattle.cf_subs.specs.RowBlocks.{with_block, SameEnds}
 use Rattle.cf_subs.proofs.Links.{stands1, stands2, rows3, ends3, linked3}
 use Rattle.cf_subs.proofs.row_blocks.RowBlocks.link.Goals as goal
 

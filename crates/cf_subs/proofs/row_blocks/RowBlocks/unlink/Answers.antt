@@ -3,23 +3,23 @@ use Rattle.std.proofs.Common.{List, Some, refl, sym, ap, ◌∙◌, subst}
 use Rattle.cf_subs.specs.declared.linked_row.LinkedRow.{LinkedRow}
 use Rattle.cf_subs.specs.Held.{Held}
 use Rattle.cf_subs.specs.Threads.{IsHeld, changed}
-use Rattle.cf_subs.specs.Seats.{AreLinked, before_in_channel, after_in_channel, before_in_session, after_in_session}
-use Rattle.cf_subs.specs.Seats.{channel_of, session_of, rows_of, SameEnds}
+use Rattle.cf_subs.specs.RowBlocks.{AreLinked, before_in_channel, after_in_channel, before_in_session, after_in_session}
+use Rattle.cf_subs.specs.RowBlocks.{channel_of, session_of, rows_of, SameEnds}
 use Rattle.cf_subs.proofs.Links.{out, held1, held2, held3, held4, rows5, ends5, linked5}
 use Rattle.cf_subs.proofs.row_blocks.RowBlocks.unlink.Goals as goal
 
 pub set_after_in_channel-requires : goal.set_after_in_channel-requires
 set_after_in_channel-requires c =
-    let o = out c.args.self.now.blocks.held c.args.at.ptr c.deref-seat.result.now c.release.new.self.held
-    (ap Some (c.deref-seat.ensures ∙ c.into_box.ensures) ∙ c.release.ensures.value) c.release.ensures.held
+    let o = out c.args.self.now.blocks.held c.args.at.ptr c.deref-linked_row.result.now c.release.new.self.held
+    (ap Some (c.deref-linked_row.ensures ∙ c.into_box.ensures) ∙ c.release.ensures.value) c.release.ensures.held
     c.requires.linked c.args.self.now.blocks.apart in
     subst (λ (z : List (Held LinkedRow) × LinkedRow). IsHeld z.0 z.1.before_in_channel)
     (λ i. (sym o.rest i, sym o.same i)) (held1 o.before o.here o.after o.linked o.apart)
 
 pub set_before_in_channel-requires : goal.set_before_in_channel-requires
 set_before_in_channel-requires c =
-    let o = out c.args.self.now.blocks.held c.args.at.ptr c.deref-seat.result.now c.release.new.self.held
-    (ap Some (c.deref-seat.ensures ∙ c.into_box.ensures) ∙ c.release.ensures.value) c.release.ensures.held
+    let o = out c.args.self.now.blocks.held c.args.at.ptr c.deref-linked_row.result.now c.release.new.self.held
+    (ap Some (c.deref-linked_row.ensures ∙ c.into_box.ensures) ∙ c.release.ensures.value) c.release.ensures.held
     c.requires.linked c.args.self.now.blocks.apart in
     let e2 = c.set_after_in_channel.ensures ∙ (λ i. changed (after_in_channel (o.same i).after_in_channel)
     (o.same i).before_in_channel (o.rest i)) in
@@ -28,8 +28,8 @@ set_before_in_channel-requires c =
 
 pub set_after_in_session-requires : goal.set_after_in_session-requires
 set_after_in_session-requires c =
-    let o = out c.args.self.now.blocks.held c.args.at.ptr c.deref-seat.result.now c.release.new.self.held
-    (ap Some (c.deref-seat.ensures ∙ c.into_box.ensures) ∙ c.release.ensures.value) c.release.ensures.held
+    let o = out c.args.self.now.blocks.held c.args.at.ptr c.deref-linked_row.result.now c.release.new.self.held
+    (ap Some (c.deref-linked_row.ensures ∙ c.into_box.ensures) ∙ c.release.ensures.value) c.release.ensures.held
     c.requires.linked c.args.self.now.blocks.apart in
     let e2 = c.set_after_in_channel.ensures ∙ (λ i. changed (after_in_channel (o.same i).after_in_channel)
     (o.same i).before_in_channel (o.rest i)) in
@@ -40,8 +40,8 @@ set_after_in_session-requires c =
 
 pub set_before_in_session-requires : goal.set_before_in_session-requires
 set_before_in_session-requires c =
-    let o = out c.args.self.now.blocks.held c.args.at.ptr c.deref-seat.result.now c.release.new.self.held
-    (ap Some (c.deref-seat.ensures ∙ c.into_box.ensures) ∙ c.release.ensures.value) c.release.ensures.held
+    let o = out c.args.self.now.blocks.held c.args.at.ptr c.deref-linked_row.result.now c.release.new.self.held
+    (ap Some (c.deref-linked_row.ensures ∙ c.into_box.ensures) ∙ c.release.ensures.value) c.release.ensures.held
     c.requires.linked c.args.self.now.blocks.apart in
     let e2 = c.set_after_in_channel.ensures ∙ (λ i. changed (after_in_channel (o.same i).after_in_channel)
     (o.same i).before_in_channel (o.rest i)) in
@@ -54,8 +54,8 @@ set_before_in_session-requires c =
 
 pub returns-clause-linked : goal.returns-clause-linked
 returns-clause-linked c =
-    let o = out c.args.self.now.blocks.held c.args.at.ptr c.deref-seat.result.now c.release.new.self.held
-    (ap Some (c.deref-seat.ensures ∙ c.into_box.ensures) ∙ c.release.ensures.value) c.release.ensures.held
+    let o = out c.args.self.now.blocks.held c.args.at.ptr c.deref-linked_row.result.now c.release.new.self.held
+    (ap Some (c.deref-linked_row.ensures ∙ c.into_box.ensures) ∙ c.release.ensures.value) c.release.ensures.held
     c.requires.linked c.args.self.now.blocks.apart in
     let e2 = c.set_after_in_channel.ensures ∙ (λ i. changed (after_in_channel (o.same i).after_in_channel)
     (o.same i).before_in_channel (o.rest i)) in
@@ -69,8 +69,8 @@ returns-clause-linked c =
 
 pub returns-clause-lists : goal.returns-clause-lists
 returns-clause-lists c =
-    let o = out c.args.self.now.blocks.held c.args.at.ptr c.deref-seat.result.now c.release.new.self.held
-    (ap Some (c.deref-seat.ensures ∙ c.into_box.ensures) ∙ c.release.ensures.value) c.release.ensures.held
+    let o = out c.args.self.now.blocks.held c.args.at.ptr c.deref-linked_row.result.now c.release.new.self.held
+    (ap Some (c.deref-linked_row.ensures ∙ c.into_box.ensures) ∙ c.release.ensures.value) c.release.ensures.held
     c.requires.linked c.args.self.now.blocks.apart in
     let e2 = c.set_after_in_channel.ensures ∙ (λ i. changed (after_in_channel (o.same i).after_in_channel)
     (o.same i).before_in_channel (o.rest i)) in

@@ -9,7 +9,7 @@ use Rattle.cf_subs.proofs.table.SubTable.has.Goals as goal
 pub returns-clause-followed : goal.returns-clause-followed
 returns-clause-followed c =
     c.is_some.ensures ∙ ap is_some c.find.ensures
-    ∙ place_is c.self.inside.rows.seats.blocks.held c.args.channel c.args.session
+    ∙ place_is c.self.inside.rows.row_blocks.blocks.held c.args.channel c.args.session
     ∙ ap (λ l. follows l c.args.channel c.args.session) c.self.view_is
 
 pub returns-clause-in_channel : goal.returns-clause-in_channel

@@ -1,7 +1,7 @@
 -- The walk starts at the channel's first row, and so goes through all of the channel's, each once.
 use Rattle.std.proofs.Common.{ap, ◌∙◌, map}
 use Rattle.cf_subs.specs.Rows.{sessions_of}
-use Rattle.cf_subs.specs.Seats.{channel_of}
+use Rattle.cf_subs.specs.RowBlocks.{channel_of}
 use Rattle.cf_subs.proofs.Finds.{channel_walk}
 use Rattle.cf_subs.proofs.Members.{among_sessions, distinct_sessions}
 use Rattle.cf_subs.proofs.Walks.{stands_first, walk_starts}
@@ -9,7 +9,7 @@ use Rattle.cf_subs.proofs.table.SubTable.walk.Goals as goal
 
 pub invariant_of-result : goal.invariant_of-result
 invariant_of-result c =
-    let b = c.self.inside.rows.seats.blocks in (
+    let b = c.self.inside.rows.row_blocks.blocks in (
       c.self.invariant.whole.linked.0,
       stands_first channel_of c.args.channel b.held c.first_in_channel.result
           b.apart c.first_in_channel.ensures,
@@ -17,7 +17,7 @@ invariant_of-result c =
 
 pub returns-clause-sessions : goal.returns-clause-sessions
 returns-clause-sessions c =
-    let b = c.self.inside.rows.seats.blocks in
+    let b = c.self.inside.rows.row_blocks.blocks in
     ap (map (λ h. h.value.row.session)) (walk_starts channel_of c.args.channel b.held c.first_in_channel.result b.apart
     c.first_in_channel.ensures) ∙ channel_walk b.held c.args.channel
     ∙ ap (λ l. sessions_of l c.args.channel) c.self.view_is

@@ -1,10 +1,10 @@
--- By whether the client is there, has a seat, and has a hub: in each case the machine's step is the one taken.
+-- By whether the client is there, has an address, and has a hub: in each case the machine's step is the one taken.
 use Rattle.std.proofs.Common.{rules, ◌≡◌, ◌∙◌, Some, None, refl, sym, slice_get, slice_set}
 use Rattle.std.specs.BTreeMap.{get_by_text}
 use Rattle.cf_hub.specs.Hub.{Node}
 use Rattle.cf_machine.specs.IntervalMachine.{run}
 use Rattle.cf_machine.specs.World.{World, start}
-use Rattle.cf_world.specs.Tie.{seats_of}
+use Rattle.cf_world.specs.Tie.{addresses_of}
 use Rattle.cf_world.specs.HubCalls.{Checked}
 use Rattle.cf_world.proofs.BoardCalls.{top-stands}
 use Rattle.cf_world.proofs.Changed.{changed, missing, unrefused}
@@ -18,17 +18,18 @@ use Rattle.cf_world.proofs.world.WorldParts.check.Goals as goal
 
 pub returns-in_default : goal.returns-in_default
 returns-in_default c = λ cfg past t.
-    let none : seats_of (get_by_text c.args.self.now.clients) c.args.name.now ≡ None = search rules in
+    let none : addresses_of (get_by_text c.args.self.now.clients) c.args.name.now ≡ None = search rules in
     (check-away t.0 c.args.name.now c.args.channel.now none, t.1)
 
 pub returns-in_default-get_mut : goal.returns-in_default-get_mut
 returns-in_default-get_mut c = λ cfg past t.
     let w : World = run cfg start past in
-    let sat : seats_of (get_by_text c.args.self.now.clients) c.args.name.now ≡ Some c.in-Some.seat = search rules in (
+    let sat : addresses_of (get_by_text c.args.self.now.clients) c.args.name.now ≡ Some c.in-Some.address =
+    search rules in (
       check-goes t.0 (c.calls_are_alike.ensures w.broker.lists) (c.moves_are_alike.ensures w.broker.lists)
           c.args.name.now c.args.channel.now _ refl
-          c.in-Some.seat sat (slice_get c.args.self.now.hubs.items)
-          (missing c.args.self.now.hubs c.in-Some.seat.node (Checked c.in-Some.seat.session c.args.channel.now _)
+          c.in-Some.address sat (slice_get c.args.self.now.hubs.items)
+          (missing c.args.self.now.hubs c.in-Some.address.node (Checked c.in-Some.address.session c.args.channel.now _)
           _ c.in_default-get_mut.ensures.variant.1),
       t.1,
     )
@@ -36,9 +37,10 @@ returns-in_default-get_mut c = λ cfg past t.
 pub returns : goal.returns
 returns c = λ cfg past t.
     let w : World = run cfg start past in
-    let sat : seats_of (get_by_text c.args.self.now.clients) c.args.name.now ≡ Some c.in-Some.seat = search rules in
+    let sat : addresses_of (get_by_text c.args.self.now.clients) c.args.name.now ≡ Some c.in-Some.address =
+    search rules in
     let g : Node = c.check-checked.new.self in
-    let does : Checked c.in-Some.seat.session c.args.channel.now c.position-top.result c.in-Some-get_mut.hub.now g =
+    let does : Checked c.in-Some.address.session c.args.channel.now c.position-top.result c.in-Some-get_mut.hub.now g =
     record {
       does = c.check-checked.ensures.session;
       same = c.check-checked.ensures.rest;
@@ -48,14 +50,14 @@ returns c = λ cfg past t.
           c.args.name.now c.args.channel.now c.position-top.result
           (top-stands cfg.namespaces c.args.self.now.broker w.broker t.0.broker c.args.channel.now c.position-top.result
           c.position-top.ensures.list_answer)
-          c.in-Some.seat sat (slice_get (slice_set c.args.self.now.hubs.items c.in-Some.seat.node g))
-          (changed c.args.self.now.hubs c.in-Some.seat.node c.in-Some-get_mut.hub.now g
-          (Checked c.in-Some.seat.session c.args.channel.now c.position-top.result)
+          c.in-Some.address sat (slice_get (slice_set c.args.self.now.hubs.items c.in-Some.address.node g))
+          (changed c.args.self.now.hubs c.in-Some.address.node c.in-Some-get_mut.hub.now g
+          (Checked c.in-Some.address.session c.args.channel.now c.position-top.result)
           (c.in-Some-get_mut.ensures.variant.0 refl) c.in-Some-get_mut.ensures.value does),
       served-each cfg.namespaces (slice_get c.args.self.now.hubs.items)
-          (slice_get (slice_set c.args.self.now.hubs.items c.in-Some.seat.node g)) t.1
-          (keeps-one (lends c.args.self.now.hubs c.in-Some.seat.node c.in-Some-get_mut.hub.now g
-          (c.in-Some-get_mut.ensures.variant.0 refl) c.in-Some-get_mut.ensures.value) c.in-Some.seat.session
+          (slice_get (slice_set c.args.self.now.hubs.items c.in-Some.address.node g)) t.1
+          (keeps-one (lends c.args.self.now.hubs c.in-Some.address.node c.in-Some-get_mut.hub.now g
+          (c.in-Some-get_mut.ensures.variant.0 refl) c.in-Some-get_mut.ensures.value) c.in-Some.address.session
           (keeps-or-closes does.does.hit (checks plain c.args.channel.now c.position-top.result)
           (checks-waits plain c.args.channel.now c.position-top.result) _ _ does.does.here) does.does.others),
     )

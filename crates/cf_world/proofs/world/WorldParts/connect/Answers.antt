@@ -11,7 +11,7 @@ use Rattle.cf_hub.specs.declared.refusal.HubRefusal.TheVariants.{TooMany}
 use Rattle.cf_machine.specs.IntervalMachine.{run}
 use Rattle.cf_machine.specs.World.{World, start}
 use Rattle.cf_world.specs.HubCalls.{Moves}
-use Rattle.cf_world.specs.Tie.{seats_of}
+use Rattle.cf_world.specs.Tie.{addresses_of}
 use Rattle.cf_world.proofs.Changed.{lends, none-there}
 use Rattle.cf_world.proofs.Connecting.{connect-goes, connect-none}
 use Rattle.std.proofs.Common.{Option, Some, List, [], ◌+◌, sym, subst}
@@ -35,7 +35,7 @@ is_err r f e is = e ∙ ap Err is
 
 pub returns-in_default-get_mut : goal.returns-in_default-get_mut
 returns-in_default-get_mut c = λ cfg past t.
-    let none : seats_of (get_by_text c.args.self.now.clients) c.args.name.now ≡ None = search rules in (
+    let none : addresses_of (get_by_text c.args.self.now.clients) c.args.name.now ≡ None = search rules in (
       connect-none t.0 c.args.name.now c.args.node c.sessions_are_counted.ensures none
           (slice_get c.args.self.now.hubs.items)
           (inl (none-there c.args.self.now.hubs c.args.node c.in_default-get_mut.ensures.variant.1, λ j. refl)),
@@ -45,7 +45,7 @@ returns-in_default-get_mut c = λ cfg past t.
 pub returns-in_ok-id-in-Ok : goal.returns-in_ok-id-in-Ok
 returns-in_ok-id-in-Ok c = on_ok_weaker c.join.result (λ joins. λ cfg past t.
     let w : World = run cfg start past in
-    let none : seats_of (get_by_text c.args.self.now.clients) c.args.name.now ≡ None = search rules in
+    let none : addresses_of (get_by_text c.args.self.now.clients) c.args.name.now ≡ None = search rules in
     let h : Node = c.in-Some-get_mut.hub.now in
     let g : Node = c.attach.new.self in
     let v : Moves c.args.node h g (slice_get c.args.self.now.hubs.items)
@@ -83,7 +83,7 @@ returns-in_ok-id-in-Ok c = on_ok_weaker c.join.result (λ joins. λ cfg past t.
       served-joined t.0 t.1 c.args.name.now (record { node = c.args.node; session = k }) v c.in-Ok.ensures.opens.others
           c.in-Ok.ensures.number.free (record {
             client = joins.client;
-            seat = Some (record { node = c.args.node; session = k });
+            address = Some (record { node = c.args.node; session = k });
             session = joins.session;
           }) refl joins.now
           (fresh-served cfg.namespaces (attached_at g k) (client_id h.node h.boot (h.used + 1))
@@ -95,7 +95,7 @@ returns-in_ok-id-in-Ok c = on_ok_weaker c.join.result (λ joins. λ cfg past t.
 
 pub returns-in-Err-TooMany : goal.returns-in-Err-TooMany
 returns-in-Err-TooMany c = λ cfg past t.
-    let none : seats_of (get_by_text c.args.self.now.clients) c.args.name.now ≡ None = search rules in
+    let none : addresses_of (get_by_text c.args.self.now.clients) c.args.name.now ≡ None = search rules in
     let h : Node = c.in-Some-get_mut.hub.now in
     let g : Node = c.attach.new.self in
     let v : Moves c.args.node h g (slice_get c.args.self.now.hubs.items)

@@ -1,4 +1,5 @@
--- By whether the client is there, has a seat and a hub, and has read: in each case the machine's step is the one taken.
+-- By whether the client is there, has an address and a hub, and has read: in each case the machine's step is the one
+-- taken.
 use Rattle.std.proofs.Common.{rules, ◌≡◌, ◌∙◌, ℕ, List, true, false, Option, Some, None, IsSome, option_and_then, refl}
 use Rattle.std.proofs.Common.{sym, ap}
 use Rattle.std.proofs.lemmas.Map.Text.{btree_map_updates_text}
@@ -15,7 +16,7 @@ use Rattle.cf_world.proofs.Named.{sets-peer}
 use Rattle.cf_world.proofs.Served.{finish-away}
 use Rattle.cf_world.proofs.ServedStill.{pair-still, peer-still}
 use Rattle.cf_world.proofs.SessionReads.{finish-done, unread-rests}
-use Rattle.cf_world.proofs.Sitting.{hub_there, seat_here}
+use Rattle.cf_world.proofs.Sitting.{hub_there, address_here}
 use Rattle.cf_world.proofs.world.WorldParts.finish.Goals as goal
 
 pub returns-in_default : goal.returns-in_default
@@ -23,12 +24,12 @@ returns-in_default c = λ cfg past t.
     let x : List ℕ = c.args.name.now in
     let none : get_by_text c.args.self.now.clients x ≡ None = search rules in
     pair-still (λ j. refl) (λ y. ap (λ m. get_by_text m y) c.get_mut.follows.holds-at-none) (
-      finish-away t.0 x c.args.channel.now (ap (λ (o : Option Peer). option_and_then (λ (p : Peer). p.seat) o) none),
+      finish-away t.0 x c.args.channel.now (ap (λ (o : Option Peer). option_and_then (λ (p : Peer). p.address) o) none),
       t.1,
     )
 
-pub returns-in_default-seat : goal.returns-in_default-seat
-returns-in_default-seat c = λ cfg past t.
+pub returns-in_default-address : goal.returns-in_default-address
+returns-in_default-address c = λ cfg past t.
     let k : Peer = c.in-Some.peer.now in
     let x : List ℕ = c.args.name.now in
     let old = c.args.self.now.clients in
@@ -43,7 +44,7 @@ returns-in_default-seat c = λ cfg past t.
     } in
     pair-still (λ j. refl) (peer-still pv) (
       finish-away t.0 x c.args.channel.now
-          (seat_here (get_by_text old) x k at ∙ c.in_default-seat.is),
+          (address_here (get_by_text old) x k at ∙ c.in_default-address.is),
       t.1,
     )
 
@@ -53,9 +54,9 @@ returns-in_default-get_mut c = λ cfg past t.
     let x : List ℕ = c.args.name.now in
     let old = c.args.self.now.clients in
     let at : get_by_text old x ≡ Some k = search rules in
-    let s : SessionAddress = c.in-Some-seat.seat in
-    let sits : k.seat ≡ Some s = search rules in
-    let there = hub_there t.0 x s (seat_here (get_by_text old) x k at ∙ sits) in
+    let s : SessionAddress = c.in-Some-address.address in
+    let sits : k.address ≡ Some s = search rules in
+    let there = hub_there t.0 x s (address_here (get_by_text old) x k at ∙ sits) in
     let none = none-there c.args.self.now.hubs s.node c.in_default-get_mut.ensures.variant.1 in
     absurd (cc)
 
@@ -67,8 +68,8 @@ returns-then-not-is_read c = λ cfg past t.
     let new = c.get_mut.follows.lender k in
     let at : get_by_text old x ≡ Some k = search rules in
     let some : IsSome (get_by_text old x) = search rules in
-    let s : SessionAddress = c.in-Some-seat.seat in
-    let sits : k.seat ≡ Some s = search rules in
+    let s : SessionAddress = c.in-Some-address.address in
+    let sits : k.address ≡ Some s = search rules in
     let pv : PeerMoves x k k (get_by_text old) (get_by_text new) =
     record {
       was = at;
@@ -81,7 +82,7 @@ returns-then-not-is_read c = λ cfg past t.
     let no' : is_ready (sub_at h s.session c.args.channel.now) ≡ false = sym c.is_read.ensures ∙ search rules in
     pair-still (unmoved v refl) (peer-still pv) (
       unread-rests t.0 x c.args.channel.now s (record { was = v.was; now = v.was; others = λ j ne. refl })
-          (seat_here (get_by_text old) x k at ∙ sits) no',
+          (address_here (get_by_text old) x k at ∙ sits) no',
       t.1,
     )
 
@@ -95,8 +96,8 @@ returns c = λ cfg past t.
     let new = c.get_mut.follows.lender last in
     let at : get_by_text old x ≡ Some k = search rules in
     let some : IsSome (get_by_text old x) = search rules in
-    let s : SessionAddress = c.in-Some-seat.seat in
-    let sits : k.seat ≡ Some s = search rules in
+    let s : SessionAddress = c.in-Some-address.address in
+    let sits : k.address ≡ Some s = search rules in
     let pv : PeerMoves x k last (get_by_text old) (get_by_text new) =
     record {
       was = at;

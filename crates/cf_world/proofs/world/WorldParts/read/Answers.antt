@@ -22,13 +22,13 @@ use Rattle.cf_world.proofs.ReadGoes.{read-away, read-unasked}
 use Rattle.cf_world.proofs.Served.{rests}
 use Rattle.cf_world.proofs.ServedStill.{pair-still, peer-still}
 use Rattle.cf_world.proofs.SessionReads.{read-done}
-use Rattle.cf_world.proofs.Sitting.{hub_there, seat_here}
+use Rattle.cf_world.proofs.Sitting.{hub_there, address_here}
 use Rattle.cf_world.proofs.world.WorldParts.read.Goals as goal
 
 same-node : (x y : Node) → Some x ≡ Some y → x ≡ y
 same-node x y h = cc
 
--- what the lent hub answers, the hub of the seat does
+-- what the lent hub answers, the hub of the address does
 asks-there : {n : ℕ} (k : ℕ) (c : List ℕ) {h g : Node} {old new : ℕ → Option Node} {o : Option UnreadSubscription}
     → Moves n h g old new → o ≡ asked_of (sub_at h k c) → (z : Node) → old n ≡ Some z → o ≡ asked_of (sub_at z k c)
 asks-there k c {h = h} v e z is = e ∙ ap (λ (y : Node). asked_of (sub_at y k c)) (same-node h z (sym v.was ∙ is))
@@ -41,11 +41,13 @@ pub returns-in_default : goal.returns-in_default
 returns-in_default c = λ cfg past t.
     let x : List ℕ = c.args.name.now in
     let none : get_by_text c.args.self.now.clients x ≡ None = search rules in
-    pair-still (λ j. refl) (λ y. ap (λ m. get_by_text m y) c.get_mut.follows.holds-at-none)
-    (read-away t.0 x c.args.channel.now (ap (λ (o : Option Peer). option_and_then (λ (p : Peer). p.seat) o) none), t.1)
+    pair-still (λ j. refl) (λ y. ap (λ m. get_by_text m y) c.get_mut.follows.holds-at-none) (
+      read-away t.0 x c.args.channel.now (ap (λ (o : Option Peer). option_and_then (λ (p : Peer). p.address) o) none),
+      t.1,
+    )
 
-pub returns-in_default-seat : goal.returns-in_default-seat
-returns-in_default-seat c = λ cfg past t.
+pub returns-in_default-address : goal.returns-in_default-address
+returns-in_default-address c = λ cfg past t.
     let k : Peer = c.in-Some.peer.now in
     let x : List ℕ = c.args.name.now in
     let old = c.args.self.now.clients in
@@ -60,7 +62,7 @@ returns-in_default-seat c = λ cfg past t.
     } in
     pair-still (λ j. refl) (peer-still pv) (
       read-away t.0 x c.args.channel.now
-          (seat_here (get_by_text old) x k at ∙ c.in_default-seat.is),
+          (address_here (get_by_text old) x k at ∙ c.in_default-address.is),
       t.1,
     )
 
@@ -70,9 +72,9 @@ returns-in_default-get_mut c = λ cfg past t.
     let x : List ℕ = c.args.name.now in
     let old = c.args.self.now.clients in
     let at : get_by_text old x ≡ Some k = search rules in
-    let s : SessionAddress = c.in-Some-seat.seat in
-    let sits : k.seat ≡ Some s = search rules in
-    let there = hub_there t.0 x s (seat_here (get_by_text old) x k at ∙ sits) in
+    let s : SessionAddress = c.in-Some-address.address in
+    let sits : k.address ≡ Some s = search rules in
+    let there = hub_there t.0 x s (address_here (get_by_text old) x k at ∙ sits) in
     let none = none-there c.args.self.now.hubs s.node c.in_default-get_mut.ensures.variant.1 in
     absurd (cc)
 
@@ -84,8 +86,8 @@ returns-in_default-unread_subscription c = λ cfg past t.
     let new = c.get_mut.follows.lender k in
     let at : get_by_text old x ≡ Some k = search rules in
     let some : IsSome (get_by_text old x) = search rules in
-    let s : SessionAddress = c.in-Some-seat.seat in
-    let sits : k.seat ≡ Some s = search rules in
+    let s : SessionAddress = c.in-Some-address.address in
+    let sits : k.address ≡ Some s = search rules in
     let pv : PeerMoves x k k (get_by_text old) (get_by_text new) =
     record {
       was = at;
@@ -97,7 +99,8 @@ returns-in_default-unread_subscription c = λ cfg past t.
     c.in-Some-get_mut.ensures.value in
     let none : c.unread_subscription.result ≡ None = search rules in
     pair-still (unmoved v refl) (peer-still pv) (
-      read-unasked t.0 x c.args.channel.now s (seat_here (get_by_text old) x k at ∙ sits) c.unread_subscription.result
+      read-unasked t.0 x c.args.channel.now s (address_here (get_by_text old) x k at ∙ sits)
+          c.unread_subscription.result
           (asks-there s.session c.args.channel.now v c.unread_subscription.ensures) none,
       t.1,
     )
@@ -111,8 +114,8 @@ returns-then-not-can_open c = λ cfg past t.
     let new = c.get_mut.follows.lender k in
     let at : get_by_text old x ≡ Some k = search rules in
     let some : IsSome (get_by_text old x) = search rules in
-    let s : SessionAddress = c.in-Some-seat.seat in
-    let sits : k.seat ≡ Some s = search rules in
+    let s : SessionAddress = c.in-Some-address.address in
+    let sits : k.address ≡ Some s = search rules in
     let pv : PeerMoves x k k (get_by_text old) (get_by_text new) =
     record {
       was = at;
@@ -141,8 +144,8 @@ returns c = λ cfg past t.
     let new = c.get_mut.follows.lender last in
     let at : get_by_text old x ≡ Some k = search rules in
     let some : IsSome (get_by_text old x) = search rules in
-    let s : SessionAddress = c.in-Some-seat.seat in
-    let sits : k.seat ≡ Some s = search rules in
+    let s : SessionAddress = c.in-Some-address.address in
+    let sits : k.address ≡ Some s = search rules in
     let pv : PeerMoves x k last (get_by_text old) (get_by_text new) =
     record {
       was = at;
@@ -155,7 +158,8 @@ returns c = λ cfg past t.
     c.in-Some-get_mut.ensures.value in
     let opens : c.can_open.result ≡ true = search rules in
     let a : UnreadSubscription = c.in-Some-unread_subscription._asked in
-    let asked : asked_of (sub_at h s.session c.args.channel.now) ≡ Some a = sym c.unread_subscription.ensures ∙ c.in-Some-unread_subscription.is in
+    let asked : asked_of (sub_at h s.session c.args.channel.now) ≡ Some a =
+    sym c.unread_subscription.ensures ∙ c.in-Some-unread_subscription.is in
     read-done t.0 t.1 x c.args.channel.now s f a c.step.new.broker v pv sits asked
     (sym (c.can_open.ensures cfg.namespaces w.broker t.0.broker) ∙ opens) c.in_ok-step.ensures
     (c.epochs_are_fresh.ensures cfg past) c.what_is_said_stays.ensures.grows c.what_is_said_stays.ensures.read

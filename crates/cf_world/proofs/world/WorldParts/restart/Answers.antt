@@ -27,9 +27,9 @@ returns c = λ cfg past t.
           (slice_get (slice_set c.args.self.now.hubs.items n g))
           (changed c.args.self.now.hubs n h g (Renewed n) (c.in-Some.ensures.variant.0 refl) c.in-Some.ensures.value
           next)
-          (get_by_text c.unseat_all.new.clients) c.unseat_all.ensures,
+          (get_by_text c.clear_addresses.new.clients) c.clear_addresses.ensures,
       served-left cfg.namespaces (slice_get c.args.self.now.hubs.items)
           (slice_get (slice_set c.args.self.now.hubs.items n g)) (get_by_text c.args.self.now.clients)
-          (get_by_text c.unseat_all.new.clients) t.1 n (λ j ne. set-other c.args.self.now.hubs.items n j g ne)
-          c.unseat_all.ensures,
+          (get_by_text c.clear_addresses.new.clients) t.1 n (λ j ne. set-other c.args.self.now.hubs.items n j g ne)
+          c.clear_addresses.ensures,
     )

@@ -1,4 +1,5 @@
--- By whether the client is there, has a seat and a hub, sends something, and is open and idle then: the machine's step
+-- By whether the client is there, has an address and a hub, sends something, and is open and idle then: the machine's
+-- step
 -- in each
 -- case.
 use Rattle.std.proofs.Common.{rules, ◌≡◌, ◌∙◌, ℕ, List, Bool, true, false, not, Option, Some, None, option_and_then}
@@ -19,9 +20,9 @@ use Rattle.cf_world.specs.declared.clients.SessionAddress.{SessionAddress}
 use Rattle.cf_world.proofs.AtHubs.{unmoved}
 use Rattle.cf_world.proofs.Changed.{lends, none-there}
 use Rattle.cf_world.proofs.Named.{sets-peer}
-use Rattle.cf_world.proofs.Sends.{no_seat}
+use Rattle.cf_world.proofs.Sends.{no_address}
 use Rattle.cf_world.proofs.ServedStill.{pair-still, peer-still, served-looked}
-use Rattle.cf_world.proofs.Sitting.{hub_there, seat_here}
+use Rattle.cf_world.proofs.Sitting.{hub_there, address_here}
 use Rattle.cf_world.proofs.TextDone.{it-rests, text-done, text-unheard}
 use Rattle.cf_world.proofs.world.WorldParts.serve.Goals as goal
 
@@ -30,11 +31,13 @@ returns-in_default c = λ back cfg past t.
     let x : List ℕ = c.args.name.now in
     let old = c.args.self.now.clients in
     let none : get_by_text old x ≡ None = search rules in
-    pair-still (λ j. refl) (λ y. ap (λ m. get_by_text m y) c.get_mut.follows.holds-at-none)
-    (no_seat t.0 x c.args.command.now (ap (λ (o : Option Peer). option_and_then (λ (p : Peer). p.seat) o) none), t.1)
+    pair-still (λ j. refl) (λ y. ap (λ m. get_by_text m y) c.get_mut.follows.holds-at-none) (
+      no_address t.0 x c.args.command.now (ap (λ (o : Option Peer). option_and_then (λ (p : Peer). p.address) o) none),
+      t.1,
+    )
 
-pub returns-in_default-seat : goal.returns-in_default-seat
-returns-in_default-seat c = λ back cfg past t.
+pub returns-in_default-address : goal.returns-in_default-address
+returns-in_default-address c = λ back cfg past t.
     let k : Peer = c.in-Some.peer.now in
     let x : List ℕ = c.args.name.now in
     let old = c.args.self.now.clients in
@@ -48,8 +51,8 @@ returns-in_default-seat c = λ back cfg past t.
           (btree_map_updates_text x old new (Some k) ((c.get_mut.follows.holds k).3 some));
     } in
     pair-still (λ j. refl) (peer-still pv) (
-      no_seat t.0 x c.args.command.now
-          (seat_here (get_by_text old) x k at ∙ c.in_default-seat.is),
+      no_address t.0 x c.args.command.now
+          (address_here (get_by_text old) x k at ∙ c.in_default-address.is),
       t.1,
     )
 
@@ -59,9 +62,9 @@ returns-in_default-get_mut c = λ back cfg past t.
     let x : List ℕ = c.args.name.now in
     let old = c.args.self.now.clients in
     let at : get_by_text old x ≡ Some k = search rules in
-    let s : SessionAddress = c.in-Some-seat.seat in
-    let sits : k.seat ≡ Some s = search rules in
-    let there = hub_there t.0 x s (seat_here (get_by_text old) x k at ∙ sits) in
+    let s : SessionAddress = c.in-Some-address.address in
+    let sits : k.address ≡ Some s = search rules in
+    let there = hub_there t.0 x s (address_here (get_by_text old) x k at ∙ sits) in
     let none = none-there c.args.self.now.hubs s.node c.in_default-get_mut.ensures.variant.1 in
     absurd (cc)
 
@@ -73,8 +76,8 @@ returns-in_default-sent c = λ back cfg past t.
     let old = c.args.self.now.clients in
     let at : get_by_text old x ≡ Some k = search rules in
     let some : IsSome (get_by_text old x) = search rules in
-    let s : SessionAddress = c.in-Some-seat.seat in
-    let sits : k.seat ≡ Some s = search rules in
+    let s : SessionAddress = c.in-Some-address.address in
+    let sits : k.address ≡ Some s = search rules in
     let q : Peer = c.send.new.peer in
     let new = c.get_mut.follows.lender q in
     let pv : PeerMoves x k q (get_by_text old) (get_by_text new) =
@@ -92,7 +95,7 @@ returns-in_default-sent c = λ back cfg past t.
     pair-still (unmoved v refl) (λ y. refl) (
       sent cfg w x s.node (slice_get c.args.self.now.hubs.items)
           (get_by_text old) (get_by_text new) v.was pv sits t.0,
-      served-looked cfg.namespaces (slice_get c.args.self.now.hubs.items) t.1 pv c.send.ensures.seat
+      served-looked cfg.namespaces (slice_get c.args.self.now.hubs.items) t.1 pv c.send.ensures.address
           c.send.ensures.session,
     )
 
@@ -104,8 +107,8 @@ returns-then-is_closed c = λ back cfg past t.
     let old = c.args.self.now.clients in
     let at : get_by_text old x ≡ Some k = search rules in
     let some : IsSome (get_by_text old x) = search rules in
-    let s : SessionAddress = c.in-Some-seat.seat in
-    let sits : k.seat ≡ Some s = search rules in
+    let s : SessionAddress = c.in-Some-address.address in
+    let sits : k.address ≡ Some s = search rules in
     let q : Peer = c.send.new.peer in
     let new = c.get_mut.follows.lender q in
     let pv : PeerMoves x k q (get_by_text old) (get_by_text new) =
@@ -143,8 +146,8 @@ returns-then-not-is_idle c = λ back cfg past t.
     let old = c.args.self.now.clients in
     let at : get_by_text old x ≡ Some k = search rules in
     let some : IsSome (get_by_text old x) = search rules in
-    let s : SessionAddress = c.in-Some-seat.seat in
-    let sits : k.seat ≡ Some s = search rules in
+    let s : SessionAddress = c.in-Some-address.address in
+    let sits : k.address ≡ Some s = search rules in
     let q : Peer = c.send.new.peer in
     let new = c.get_mut.follows.lender q in
     let pv : PeerMoves x k q (get_by_text old) (get_by_text new) =
@@ -176,8 +179,8 @@ returns c = on_ok_weaker c.serve_text.result (λ did. λ back cfg past t.
     let old = c.args.self.now.clients in
     let at : get_by_text old x ≡ Some k = search rules in
     let some : IsSome (get_by_text old x) = search rules in
-    let s : SessionAddress = c.in-Some-seat.seat in
-    let sits : k.seat ≡ Some s = search rules in
+    let s : SessionAddress = c.in-Some-address.address in
+    let sits : k.address ≡ Some s = search rules in
     let q : Peer = c.send.new.peer in
     let f : Session = c.serve_text.new.session in
     let last : Peer = record q { session = f } in

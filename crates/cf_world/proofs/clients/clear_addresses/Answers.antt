@@ -4,7 +4,7 @@ use Rattle.std.specs.BTreeMap.{is_at}
 use Rattle.std.specs.Cmp.Lexicographic.{slice_cmp}
 use Rattle.std.specs.Ordering.{nat_cmp}
 use Rattle.cf_world.proofs.Leaving.{retain_leaves}
-use Rattle.cf_world.proofs.clients.unseat_all.Goals as goal
+use Rattle.cf_world.proofs.clients.clear_addresses.Goals as goal
 
 pub returns : goal.returns
 returns c = λ y. retain_leaves _ c.args.node _ (λ k v b w f' t. search rules) _ _ c.retain.ensures.filtered

@@ -1,49 +1,49 @@
--- Turns are kept: what one more and one less make of numbers and marks.
+-- Turns are kept: what one more and one less make of numbers and flags.
 use Rattle.std.proofs.Common.{◌≡◌, ◌≤◌, ◌<◌, ◌+◌, ◌==◌, ◌||◌, ℕ, zero, suc, Bool, true, false, List, [], ◌∷◌, ◌++◌}
 use Rattle.std.proofs.Common.{length, arith, refl, sym, ap, ◌∙◌, subst, slice_set, nat_lt}
 use Rattle.std.proofs.lemmas.Bool.Decides.{Decides-eqb, nat_tests}
 use Rattle.std.proofs.lemmas.List.{length-append, length-set, get_or-set_same, get_or-set_other}
 use Rattle.std.proofs.lemmas.List.Folds.{list_any-append}
 use Rattle.cf_hub.specs.Counts.{AreNumbersOnce}
-use Rattle.cf_hub.specs.Marks.{AreMarked, is_marked, marks_count}
+use Rattle.cf_hub.specs.Flags.{AreFlagged, is_flagged, flags_count}
 use Rattle.cf_hub.specs.Turns.{is_in}
 
--- ---- counting marks
+-- ---- counting flags
 
-marks_few : (ms : List Bool) → marks_count ms ≤ length ms
-marks_few [] = omega arith
-marks_few (true ∷ ms) = omega (arith, marks_few ms)
-marks_few (false ∷ ms) = omega (arith, marks_few ms)
+flags_few : (ms : List Bool) → flags_count ms ≤ length ms
+flags_few [] = omega arith
+flags_few (true ∷ ms) = omega (arith, flags_few ms)
+flags_few (false ∷ ms) = omega (arith, flags_few ms)
 
-pub marks_fewer : (ms : List Bool) (k : ℕ) → k < length ms → is_marked ms k ≡ false → marks_count ms < length ms
-marks_fewer [] k l e = absurd (omega (arith, l))
-marks_fewer (true ∷ ms) zero l e = absurd (cc)
-marks_fewer (false ∷ ms) zero l e = omega (arith, marks_few ms)
-marks_fewer (true ∷ ms) (suc k) l e = omega (arith, marks_fewer ms k (omega (arith, l)) e)
-marks_fewer (false ∷ ms) (suc k) l e = omega (arith, marks_fewer ms k (omega (arith, l)) e)
+pub flags_fewer : (ms : List Bool) (k : ℕ) → k < length ms → is_flagged ms k ≡ false → flags_count ms < length ms
+flags_fewer [] k l e = absurd (omega (arith, l))
+flags_fewer (true ∷ ms) zero l e = absurd (cc)
+flags_fewer (false ∷ ms) zero l e = omega (arith, flags_few ms)
+flags_fewer (true ∷ ms) (suc k) l e = omega (arith, flags_fewer ms k (omega (arith, l)) e)
+flags_fewer (false ∷ ms) (suc k) l e = omega (arith, flags_fewer ms k (omega (arith, l)) e)
 
-one_marked : (ms : List Bool) (k : ℕ) → k < length ms → is_marked ms k ≡ false
-    → marks_count (slice_set ms k true) ≡ marks_count ms + 1
-one_marked [] k l e = absurd (omega (arith, l))
-one_marked (true ∷ ms) zero l e = absurd (cc)
-one_marked (false ∷ ms) zero l e = omega arith
-one_marked (true ∷ ms) (suc k) l e = omega (arith, one_marked ms k (omega (arith, l)) e)
-one_marked (false ∷ ms) (suc k) l e = omega (arith, one_marked ms k (omega (arith, l)) e)
+one_flagged : (ms : List Bool) (k : ℕ) → k < length ms → is_flagged ms k ≡ false
+    → flags_count (slice_set ms k true) ≡ flags_count ms + 1
+one_flagged [] k l e = absurd (omega (arith, l))
+one_flagged (true ∷ ms) zero l e = absurd (cc)
+one_flagged (false ∷ ms) zero l e = omega arith
+one_flagged (true ∷ ms) (suc k) l e = omega (arith, one_flagged ms k (omega (arith, l)) e)
+one_flagged (false ∷ ms) (suc k) l e = omega (arith, one_flagged ms k (omega (arith, l)) e)
 
-one_unmarked : (ms : List Bool) (k : ℕ) → is_marked ms k ≡ true
-    → marks_count (slice_set ms k false) + 1 ≡ marks_count ms
-one_unmarked [] k e = absurd (cc)
-one_unmarked (true ∷ ms) zero e = omega arith
-one_unmarked (false ∷ ms) zero e = absurd (cc)
-one_unmarked (true ∷ ms) (suc k) e = omega (arith, one_unmarked ms k e)
-one_unmarked (false ∷ ms) (suc k) e = omega (arith, one_unmarked ms k e)
+one_unflagged : (ms : List Bool) (k : ℕ) → is_flagged ms k ≡ true
+    → flags_count (slice_set ms k false) + 1 ≡ flags_count ms
+one_unflagged [] k e = absurd (cc)
+one_unflagged (true ∷ ms) zero e = omega arith
+one_unflagged (false ∷ ms) zero e = absurd (cc)
+one_unflagged (true ∷ ms) (suc k) e = omega (arith, one_unflagged ms k e)
+one_unflagged (false ∷ ms) (suc k) e = omega (arith, one_unflagged ms k e)
 
-in_range : (ms : List Bool) (k : ℕ) → is_marked ms k ≡ true → k < length ms
+in_range : (ms : List Bool) (k : ℕ) → is_flagged ms k ≡ true → k < length ms
 in_range [] k e = absurd (cc)
 in_range (m ∷ ms) zero e = omega arith
 in_range (m ∷ ms) (suc k) e = omega (arith, in_range ms k e)
 
-same_count : (ms ns : List Bool) → ((k : ℕ) → is_marked ns k ≡ is_marked ms k) → marks_count ns ≡ marks_count ms
+same_count : (ms ns : List Bool) → ((k : ℕ) → is_flagged ns k ≡ is_flagged ms k) → flags_count ns ≡ flags_count ms
 same_count [] [] h = refl
 same_count [] (false ∷ ns) h = same_count [] ns (λ k. h (suc k))
 same_count [] (true ∷ ns) h = absurd (let e = h 0 in cc)
@@ -69,13 +69,14 @@ once_more k (x ∷ xs) h o =
 
 -- ---- one more, one less, and more room
 
-pub added : (ns : List ℕ) (ms : List Bool) (room k : ℕ) → AreMarked ns ms room → k < length ms → is_marked ms k ≡ false
-    → AreMarked (ns ++ k ∷ []) (slice_set ms k true) room
+pub added : (ns : List ℕ) (ms : List Bool) (room k : ℕ) → AreFlagged ns ms room → k < length ms
+    → is_flagged ms k ≡ false
+    → AreFlagged (ns ++ k ∷ []) (slice_set ms k true) room
 added ns ms room k a l e =
     record {
-      marked = λ j. by_value j (j == k) (Decides-eqb j k).0 (λ h. (Decides-eqb j k).1 h);
-      once = once_more k ns (a.marked k ∙ e) a.once;
-      count = omega (arith, length-append ns (k ∷ []), one_marked ms k l e, a.count);
+      flagged = λ j. by_value j (j == k) (Decides-eqb j k).0 (λ h. (Decides-eqb j k).1 h);
+      once = once_more k ns (a.flagged k ∙ e) a.once;
+      count = omega (arith, length-append ns (k ∷ []), one_flagged ms k l e, a.count);
       room = omega (arith, length-set ms k true, a.room);
     }
   where
@@ -87,77 +88,77 @@ added ns ms room k a l e =
     or_false true = refl
     or_false false = refl
 
-    here : is_in k (ns ++ k ∷ []) ≡ is_marked (slice_set ms k true) k
+    here : is_in k (ns ++ k ∷ []) ≡ is_flagged (slice_set ms k true) k
     here = is_last k k ns ∙ ap (λ t. is_in k ns || t) ((Decides-eqb k k).1 refl) ∙ or_true (is_in k ns)
         ∙ sym (get_or-set_same ms k true false l)
 
     by_value : (j : ℕ) (t : Bool) → (t ≡ true → j ≡ k) → (j ≡ k → t ≡ true)
-        → is_in j (ns ++ k ∷ []) ≡ is_marked (slice_set ms k true) j
-    by_value j true f g = subst (λ i. is_in i (ns ++ k ∷ []) ≡ is_marked (slice_set ms k true) i) (sym (f refl)) here
+        → is_in j (ns ++ k ∷ []) ≡ is_flagged (slice_set ms k true) j
+    by_value j true f g = subst (λ i. is_in i (ns ++ k ∷ []) ≡ is_flagged (slice_set ms k true) i) (sym (f refl)) here
     by_value j false f g =
         let apart : (k == j) ≡ false = other (k == j) (λ h. sym ((Decides-eqb k j).0 h)) in
-        is_last j k ns ∙ ap (λ t. is_in j ns || t) apart ∙ or_false (is_in j ns) ∙ a.marked j
+        is_last j k ns ∙ ap (λ t. is_in j ns || t) apart ∙ or_false (is_in j ns) ∙ a.flagged j
         ∙ sym (get_or-set_other ms k j true false (λ h. absurd (let c = g h in cc)))
       where
         other : (u : Bool) → (u ≡ true → j ≡ k) → u ≡ false
         other true h = absurd (let c = g (h refl) in cc)
         other false h = refl
 
-pub within : (k : ℕ) (ns : List ℕ) (ms : List Bool) (room : ℕ) → AreMarked (k ∷ ns) ms room → is_marked ms k ≡ true
-within k ns ms room a = sym (a.marked k) ∙ first
+pub within : (k : ℕ) (ns : List ℕ) (ms : List Bool) (room : ℕ) → AreFlagged (k ∷ ns) ms room → is_flagged ms k ≡ true
+within k ns ms room a = sym (a.flagged k) ∙ first
   where
     first : is_in k (k ∷ ns) ≡ true
     first = grind (arith, nat_tests)
 
-pub in_marks : (k : ℕ) (ns : List ℕ) (ms : List Bool) (room : ℕ) → AreMarked (k ∷ ns) ms room → k < length ms
-in_marks k ns ms room a = in_range ms k (within k ns ms room a)
+pub in_flags : (k : ℕ) (ns : List ℕ) (ms : List Bool) (room : ℕ) → AreFlagged (k ∷ ns) ms room → k < length ms
+in_flags k ns ms room a = in_range ms k (within k ns ms room a)
 
-pub taken : (k : ℕ) (ns : List ℕ) (ms : List Bool) (room : ℕ) → AreMarked (k ∷ ns) ms room
-    → AreMarked ns (slice_set ms k false) room
+pub taken : (k : ℕ) (ns : List ℕ) (ms : List Bool) (room : ℕ) → AreFlagged (k ∷ ns) ms room
+    → AreFlagged ns (slice_set ms k false) room
 taken k ns ms room a =
     record {
-      marked = λ j. by_value j (j == k) (Decides-eqb j k).0 (λ h. (Decides-eqb j k).1 h);
+      flagged = λ j. by_value j (j == k) (Decides-eqb j k).0 (λ h. (Decides-eqb j k).1 h);
       once = a.once.1;
-      count = omega (arith, one_unmarked ms k (within k ns ms room a), a.count);
+      count = omega (arith, one_unflagged ms k (within k ns ms room a), a.count);
       room = omega (arith, length-set ms k false, a.room);
     }
   where
     by_value : (j : ℕ) (t : Bool) → (t ≡ true → j ≡ k) → (j ≡ k → t ≡ true)
-        → is_in j ns ≡ is_marked (slice_set ms k false) j
+        → is_in j ns ≡ is_flagged (slice_set ms k false) j
     by_value j true f g =
-        subst (λ i. is_in i ns ≡ is_marked (slice_set ms k false) i) (sym (f refl))
-        (a.once.0 ∙ sym (get_or-set_same ms k false false (in_marks k ns ms room a)))
+        subst (λ i. is_in i ns ≡ is_flagged (slice_set ms k false) i) (sym (f refl))
+        (a.once.0 ∙ sym (get_or-set_same ms k false false (in_flags k ns ms room a)))
     by_value j false f g =
-        sym (passed (k == j) (λ h. sym ((Decides-eqb k j).0 h)) refl) ∙ a.marked j
+        sym (passed (k == j) (λ h. sym ((Decides-eqb k j).0 h)) refl) ∙ a.flagged j
         ∙ sym (get_or-set_other ms k j false false (λ h. absurd (let c = g h in cc)))
       where
         passed : (u : Bool) → (u ≡ true → j ≡ k) → (k == j) ≡ u → is_in j (k ∷ ns) ≡ is_in j ns
         passed true h is = absurd (let c = g (h refl) in cc)
         passed false h is = grind (arith, is)
 
-pub widened : (ns : List ℕ) (ms new : List Bool) (room more : ℕ) → AreMarked ns ms room
-    → ((k : ℕ) → is_marked new k ≡ is_marked ms k) → length new ≤ more → AreMarked ns new more
+pub widened : (ns : List ℕ) (ms new : List Bool) (room more : ℕ) → AreFlagged ns ms room
+    → ((k : ℕ) → is_flagged new k ≡ is_flagged ms k) → length new ≤ more → AreFlagged ns new more
 widened ns ms new room more a h l =
     record {
-      marked = λ k. a.marked k ∙ sym (h k);
+      flagged = λ k. a.flagged k ∙ sym (h k);
       once = a.once;
       count = a.count ∙ sym (same_count ms new h);
       room = l;
     }
 
-past : (ms : List Bool) (k : ℕ) → length ms ≤ k → is_marked ms k ≡ false
+past : (ms : List Bool) (k : ℕ) → length ms ≤ k → is_flagged ms k ≡ false
 past [] k l = refl
 past (m ∷ ms) zero l = absurd (omega (arith, l))
 past (m ∷ ms) (suc k) l = past ms k (omega (arith, l))
 
--- more marks, none of them set
+-- more flags, none of them set
 pub grown : (ms new : List Bool) (n : ℕ) → length ms < n → length new ≡ n
-    → ((k : ℕ) → k < length ms → is_marked new k ≡ is_marked ms k)
-    → ((k : ℕ) → length ms ≤ k → k < n → is_marked new k ≡ false)
-    → (k : ℕ) → is_marked new k ≡ is_marked ms k
+    → ((k : ℕ) → k < length ms → is_flagged new k ≡ is_flagged ms k)
+    → ((k : ℕ) → length ms ≤ k → k < n → is_flagged new k ≡ false)
+    → (k : ℕ) → is_flagged new k ≡ is_flagged ms k
 grown ms new n l e same fresh k = by_value (nat_lt k (length ms)) refl (nat_lt k n) refl
   where
-    by_value : (t : Bool) → nat_lt k (length ms) ≡ t → (u : Bool) → nat_lt k n ≡ u → is_marked new k ≡ is_marked ms k
+    by_value : (t : Bool) → nat_lt k (length ms) ≡ t → (u : Bool) → nat_lt k n ≡ u → is_flagged new k ≡ is_flagged ms k
     by_value true h u g = same k (grind (arith, nat_tests, h))
     by_value false h true g =
         let behind : length ms ≤ k = grind (arith, nat_tests, h) in

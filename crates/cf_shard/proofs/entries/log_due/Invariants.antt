@@ -1,7 +1,7 @@
 use Rattle.std.proofs.Common.{◌≡◌, ◌+◌, ◌≤◌, ◌^◌, ◌++◌, length}
 use Rattle.cf_stream.specs.LogState.{due_entries}
 use Rattle.cf_shard.specs.ShardLog.{HasWhole, KeepsShare}
-use Rattle.cf_shard.proofs.entries.note_due.Given as goal
+use Rattle.cf_shard.proofs.entries.log_due.Given as goal
 
 abbrev pub invariant-due : goal.invariant-due
 invariant-due l =

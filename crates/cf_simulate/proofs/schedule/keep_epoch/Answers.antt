@@ -1,8 +1,8 @@
--- An epoch that is said is noted, and no other event changes the notes.
+-- An epoch that is said is kept, and no other event changes the notes.
 use Rattle.std.proofs.Common.{◌∙◌, rules}
 use Rattle.std.specs.String.{string_bytes}
 use Rattle.std.proofs.lemmas.Map.Text.{btree_set_updates_text}
-use Rattle.cf_simulate.proofs.schedule.note_epoch.Goals as goal
+use Rattle.cf_simulate.proofs.schedule.keep_epoch.Goals as goal
 
 pub returns-clause-ok : goal.returns-clause-ok
 returns-clause-ok c =
