@@ -42,7 +42,7 @@ streams are still those that they know.
 What comes faster than a node takes it waits on the node's link. What a full link has no room for is lost on the way to that
 node; its clients are told to subscribe again, and get it by recovery. --link 1 shows that, and a larger link makes it rare.
 
-A connection that never sends a connect command stays for ever, and takes one of a node's 16,384 places; with --stale 25 it is
+A connection that never sends a connect command stays for ever, and takes one of a node's 16,384 slots; with --stale 25 it is
 dropped 25 seconds after its handshake.
 
 It ends at the end of standard input (Ctrl-D at a terminal): each client is closed with 3001. Ctrl-C and TERM end it at once, and

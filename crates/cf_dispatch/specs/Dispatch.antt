@@ -26,20 +26,20 @@ module _ {P L : Type 0} (receives : P → Option L → P → Type 0)
   ForwardsIf None p q = q ≡ p
   ForwardsIf (Some d) p q = Forwards d p q
 
-  -- one turn, in which this came, or nothing did
+  -- one delivery, in which this came, or nothing did
   pub record PassesOn (came : Option L) (p q : P) : Type 0 where
     pub received : P
     pub receiving : receives p came received
     pub forwarding : ForwardsIf came received q
 
-  abbrev pub TakesTurn : P → P → Type 0
-  TakesTurn p q = (came : Option L) × PassesOn came p q
+  abbrev pub Delivers : P → P → Type 0
+  Delivers p q = (came : Option L) × PassesOn came p q
 
-  -- turns one after another, the newest first
+  -- deliveries one after another, the newest first
   abbrev pub Dispatched : List (Option L) → P → P → Type 0
   Dispatched [] p q = q ≡ p
   Dispatched (came ∷ before) p q = (mid : P) × Dispatched before p mid × PassesOn came mid q
 
-  -- some turns
+  -- some deliveries
   abbrev pub Dispatches : P → P → Type 0
   Dispatches p q = (came : List (Option L)) × Dispatched came p q

@@ -5,5 +5,5 @@ pub mod Life
 pub mod Outlet
 pub mod Pongs
 pub mod Rota
-pub mod Seconds
+pub mod Ticks
 pub mod Standing

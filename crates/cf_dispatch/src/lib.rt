@@ -12,8 +12,8 @@ mod outbox;
 mod outlet;
 mod pongs;
 mod rota;
-mod seconds;
 mod standing;
+mod ticks;
 
 pub use answers::{broker_error, goes_on, keeps_presence, mark_after};
 pub use batch::{Outlets, SESSIONS_AT_ONCE, take_batch};
@@ -23,5 +23,5 @@ pub use outbox::Outbox;
 pub use outlet::{Taken, take_for};
 pub use pongs::{PongWatch, SECONDS_TO_PING, SECONDS_TO_PONG};
 pub use rota::{GROUPS, Group, Rota, nobody_is_passed_over};
-pub use seconds::{MOST_LATE, Seconds};
 pub use standing::Standing;
+pub use ticks::{MOST_LATE, Ticks};

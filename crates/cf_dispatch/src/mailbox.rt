@@ -1,6 +1,6 @@
 //! What a dispatcher stands between: a link at which publications come, and the hub of its node.
 ghost use Rattle.std.specs.Prelude.{◌≡◌};
-ghost use Rattle.cf_dispatch.specs.Dispatch.{TakesTurn, stirs};
+ghost use Rattle.cf_dispatch.specs.Dispatch.{Delivers, stirs};
 
 use cf_hub::Delivered;
 
@@ -34,9 +34,9 @@ pub trait Mailbox {
         ensures { wakes self.old self.new };
 }
 
-/// One turn of a dispatcher: what comes is brought to the hub, and the IO loop is woken where a client got something by it.
+/// One delivery of a dispatcher: what comes is brought to the hub, and the IO loop is woken where a client got something by it.
 pub fn pass_on<M: Mailbox>(mailbox: &mut M)
-    ensures { TakesTurn M.receives M.brings M.wakes mailbox.old mailbox.new }
+    ensures { Delivers M.receives M.brings M.wakes mailbox.old mailbox.new }
 {
     if let Some(letter) = mailbox.receive() {
         let delivered = mailbox.deliver_next(letter);

@@ -589,13 +589,13 @@ run_on : (b : Bool) (p q : ℕ) (step : Step) (before : List Step) (old mid new 
     → Steps step mid new → Run b p q (step ∷ before) old new
 run_on b p q (Adds k h) before old mid new r m t e f l s = run_comes (waits k mid) b p q k h before old mid new refl r s
 run_on b p q (Turns k) before old mid new r m t e f l s =
-    let d = passed b p s.ticket mid new r.timed s.leaves (not_that s.ticket k p s.place t) s.first s.first_of_all
+    let d = passed b p s.ticket mid new r.timed s.leaves (not_that s.ticket k p s.slot t) s.first s.first_of_all
     r.there in
-    run_turn b p q k s.ticket before old mid new r m s.place s.leaves d
+    run_turn b p q k s.ticket before old mid new r m s.slot s.leaves d
 run_on b p q (LightTurns k) before old mid new r m t e f l s =
     let d = light_passed b p k s.ticket mid new (λ g. let x : true ≡ false = l g in absurd (cc)) r.timed s.leaves
-    (not_that s.ticket k p s.place t) s.first r.there in
-    run_light_turn b p q k s.ticket before old mid new r m s.place s.leaves d
+    (not_that s.ticket k p s.slot t) s.first r.there in
+    run_light_turn b p q k s.ticket before old mid new r m s.slot s.leaves d
 run_on b p q (Charges k c n) before old mid new r m t e f l s = run_charged b p q k c n before old mid new r s.0 s.1
 run_on b p q (Ends k) before old mid new r m t e f l s = run_ended b p q k before old mid new r e f s
 
@@ -633,16 +633,16 @@ light_run p q due during old new o a w t m h e f r =
 pub turns_are_covered : TurnsAreCovered
 turns_are_covered p q due during old mid new o a w d m h e f n r (inl s) =
     let so_far = light_run p q due during old mid o a w d m h e f r in
-    let x = passed_light false p s.ticket mid new so_far.timed s.leaves (not_that s.ticket q p s.place (apart q p n))
+    let x = passed_light false p s.ticket mid new so_far.timed s.leaves (not_that s.ticket q p s.slot (apart q p n))
     s.first so_far.there in
-    let y = covered false p q s.ticket during old mid so_far (subst (λ (i : ℕ). i < most) (sym d) m) s.place
+    let y = covered false p q s.ticket during old mid so_far (subst (λ (i : ℕ). i < most) (sym d) m) s.slot
     (left_on_time s.ticket mid new so_far.timed s.leaves).start x.later in
     omega (arith, y, d)
 turns_are_covered p q due during old mid new o a w d m h e f n r (inr s) =
     let so_far = light_run p q due during old mid o a w d m h e f r in
-    let x = passed_light false p s.ticket mid new so_far.timed s.leaves (not_that s.ticket q p s.place (apart q p n))
+    let x = passed_light false p s.ticket mid new so_far.timed s.leaves (not_that s.ticket q p s.slot (apart q p n))
     s.first so_far.there in
-    let y = covered false p q s.ticket during old mid so_far (subst (λ (i : ℕ). i < most) (sym d) m) s.place
+    let y = covered false p q s.ticket during old mid so_far (subst (λ (i : ℕ). i < most) (sym d) m) s.slot
     (left_on_time s.ticket mid new so_far.timed s.leaves).start x.later in
     omega (arith, y, d)
 

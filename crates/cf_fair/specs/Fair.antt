@@ -1,4 +1,4 @@
--- Turns by cost: what a place's turns cost is added to its virtual time, and who would have the least after one more
+-- Turns by cost: what a slot's turns cost is added to its virtual time, and who would have the least after one more
 -- has the next turn. (This project's own profile.)
 use Rattle.std.specs.Prelude.{◌≡◌, ◌≢◌, ◌≤◌, ◌<◌, ◌+◌, ◌-◌, ◌/◌, ◌^◌, ◌==◌, ◌||◌, ◌⊎◌, ℕ, nat_lt, length, max, min}
 use Rattle.std.specs.Prelude.{Bool, true, false, if◌then◌else◌, List, [], ◌∷◌, get_or}
@@ -8,7 +8,7 @@ pub record Fair : Type 0 where
   -- who waits and may always be served, and who waits and may be served only while no link is crowded
   pub light : List Ticket
   pub held : List Ticket
-  -- by place, its virtual time and what its next turn is expected to cost
+  -- by slot, its virtual time and what its next turn is expected to cost
   pub accounts : List (ℕ × ℕ)
   -- nobody starts before it
   pub clock : ℕ
@@ -41,7 +41,7 @@ due_at f k = up (time_at f k) (cost_at f k)
 abbrev pub waits : ℕ → Fair → Bool
 waits k f = is_there k f.light || is_there k f.held
 
--- where a place starts that comes now: nobody saves up what it didn't use
+-- where a slot starts that comes now: nobody saves up what it didn't use
 abbrev pub start_at : Fair → ℕ → ℕ
 start_at f k = max (time_at f k) f.clock
 
@@ -57,7 +57,7 @@ pub record IsSame (old new : Fair) : Type 0 where
   pub budget : new.budget ≡ old.budget
   pub number : new.number ≡ old.number
 
--- a place that didn't wait comes
+-- a slot that didn't wait comes
 pub record Joins (k : ℕ) (is_held : Bool) (old new : Fair) : Type 0 where
   pub light : new.light ≡ (if is_held then old.light else with_ticket (ticket_at old k) old.light)
   pub held : new.held ≡ (if is_held then with_ticket (ticket_at old k) old.held else old.held)
@@ -81,18 +81,18 @@ pub record Leaves (t : Ticket) (old new : Fair) : Type 0 where
   pub budget : new.budget ≡ old.budget
   pub number : new.number ≡ old.number
 
--- place k has its turn: nobody that waits is due before it
+-- slot k has its turn: nobody that waits is due before it
 pub record HasTurn (k : ℕ) (old new : Fair) : Type 0 where
   pub ticket : Ticket
-  pub place : ticket.2 ≡ k
+  pub slot : ticket.2 ≡ k
   pub leaves : Leaves ticket old new
   pub first : IsFirst ticket new.light
   pub first_of_all : IsFirst ticket new.held
 
--- place k has its turn while those that are held wait: of the others nobody is due before it
+-- slot k has its turn while those that are held wait: of the others nobody is due before it
 pub record HasLightTurn (k : ℕ) (old new : Fair) : Type 0 where
   pub ticket : Ticket
-  pub place : ticket.2 ≡ k
+  pub slot : ticket.2 ≡ k
   pub leaves : Leaves ticket old new
   pub is_light : old.light ≡ ticket ∷ new.light
   pub first : IsFirst ticket new.light
@@ -101,12 +101,12 @@ pub record HasLightTurn (k : ℕ) (old new : Fair) : Type 0 where
 abbrev pub share : ℕ → ℕ → Fair → ℕ
 share cost others f = cost / up (up (length f.light + length f.held) others) 1
 
--- what the next turn of place k is expected to cost, behind one that cost so much: no less, and no less than half of
+-- what the next turn of slot k is expected to cost, behind one that cost so much: no less, and no less than half of
 -- what this one was expected to
 abbrev pub expected : Fair → ℕ → ℕ → ℕ
 expected f k cost = max cost (cost_at f k / 2)
 
--- what a turn of place k cost: the clock goes on by each one's share
+-- what a turn of slot k cost: the clock goes on by each one's share
 pub record Pays (k cost others : ℕ) (old new : Fair) : Type 0 where
   pub light : new.light ≡ old.light
   pub held : new.held ≡ old.held
@@ -116,16 +116,16 @@ pub record Pays (k cost others : ℕ) (old new : Fair) : Type 0 where
   pub budget : new.budget ≡ old.budget
   pub number : new.number ≡ old.number
 
--- a place that never came has nothing to pay
+-- a slot that never came has nothing to pay
 abbrev pub PaysIf : Bool → ℕ → ℕ → ℕ → Fair → Fair → Type 0
 PaysIf true k cost others old new = Pays k cost others old new
 PaysIf false k cost others old new = IsSame old new
 
--- whether a place came once
+-- whether a slot came once
 abbrev pub is_known : ℕ → Fair → Bool
 is_known k f = nat_lt k (length f.accounts)
 
--- the connection at place k ends
+-- the connection at slot k ends
 pub record Goes (k : ℕ) (old new : Fair) : Type 0 where
   pub light : new.light ≡ without k old.light
   pub held : new.held ≡ without k old.held
@@ -147,11 +147,11 @@ pub record IsLightIdle (old new : Fair) : Type 0 where
 -- ---- runs
 
 pub data Step : Type 0 where
-  Adds : (place : ℕ) → (is_held : Bool) → Step
-  Turns : (place : ℕ) → Step
-  LightTurns : (place : ℕ) → Step
-  Charges : (place cost others : ℕ) → Step
-  Ends : (place : ℕ) → Step
+  Adds : (slot : ℕ) → (is_held : Bool) → Step
+  Turns : (slot : ℕ) → Step
+  LightTurns : (slot : ℕ) → Step
+  Charges : (slot cost others : ℕ) → Step
+  Ends : (slot : ℕ) → Step
 
 -- one step, as `FairQueue`'s calls have it; who had its turn is charged before it comes again
 abbrev pub Steps : Step → Fair → Fair → Type 0
@@ -187,7 +187,7 @@ cost_of k (LightTurns j) = 0
 cost_of k (Charges j c n) = if j == k then c else 0
 cost_of k (Ends j) = 0
 
--- whether place k's connection ended; whether it had a turn
+-- whether slot k's connection ended; whether it had a turn
 abbrev pub has_ended : ℕ → List Step → Bool
 has_ended k [] = false
 has_ended k (step ∷ before) = is_end k step || has_ended k before
@@ -207,7 +207,7 @@ abbrev pub has_light_turn : List Step → Bool
 has_light_turn [] = false
 has_light_turn (step ∷ before) = is_light_turn step || has_light_turn before
 
--- all that was charged to place k, and what was since its last turn
+-- all that was charged to slot k, and what was since its last turn
 abbrev pub spent : ℕ → List Step → ℕ
 spent k [] = 0
 spent k (step ∷ before) = cost_of k step + spent k before

@@ -8,14 +8,14 @@ use std::alloc::{AllocError, Global};
 use std::collections::BTreeSet;
 use std::marker::Model;
 
-/// When a place is due, the number under which it came, and the place.
+/// When a slot is due, the number under which it came, and the slot.
 pub type Ticket = (u64, u64, usize);
 
 /// Those who wait, in the order in which they will have their turn.
 #[derive(Drop)]
 pub struct Lane {
     tickets: BTreeSet<Ticket>,
-    // By place: when it is due, and under which number it waits.
+    // By slot: when it is due, and under which number it waits.
     keys: Vec<Option<(u64, u64)>>,
 }
 
@@ -41,7 +41,7 @@ impl Lane {
         }
     }
 
-    /// One more waits, whose place doesn't yet.
+    /// One more waits, whose slot doesn't yet.
     ///
     /// # Errors
     ///
@@ -83,21 +83,21 @@ impl Lane {
         Some(ticket)
     }
 
-    /// A place waits no more.
-    pub fn remove(&mut self, place: usize)
-        ensures { self.new ≡ without place self.old }
+    /// A slot waits no more.
+    pub fn remove(&mut self, slot: usize)
+        ensures { self.new ≡ without slot self.old }
     {
-        if let Some((due, number)) = key_at(&self.keys, place) {
-            self.tickets.remove(&(due, number, place));
-            self.keys[place] = None;
+        if let Some((due, number)) = key_at(&self.keys, slot) {
+            self.tickets.remove(&(due, number, slot));
+            self.keys[slot] = None;
         }
     }
 
-    /// Whether a place waits.
-    pub fn waits(&self, place: usize) -> bool
-        ensures { result ≡ is_there place self.now }
+    /// Whether a slot waits.
+    pub fn waits(&self, slot: usize) -> bool
+        ensures { result ≡ is_there slot self.now }
     {
-        key_at(&self.keys, place).is_some()
+        key_at(&self.keys, slot).is_some()
     }
 
     /// How many wait.
@@ -109,17 +109,17 @@ impl Lane {
     }
 }
 
-// When a place is due and its number, if it waits.
-fn key_at(keys: &[Option<(u64, u64)>], place: usize) -> Option<(u64, u64)>
-    ensures { result ≡ key_in keys.now place }
+// When a slot is due and its number, if it waits.
+fn key_at(keys: &[Option<(u64, u64)>], slot: usize) -> Option<(u64, u64)>
+    ensures { result ≡ key_in keys.now slot }
 {
-    match keys.get(place) {
+    match keys.get(slot) {
         Some(key) => *key,
         None => None,
     }
 }
 
-// Makes room for so many places.
+// Makes room for so many slots.
 fn make_room(keys: &mut Vec<Option<(u64, u64)>>, count: usize) -> Result<(), AllocError>
     ensures same { (k : ℕ) → key_in keys.new.items k ≡ key_in keys.old.items k }
     ensures ok { OnOk result (count ≤ vec_len keys.new) }

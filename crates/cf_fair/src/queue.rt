@@ -13,10 +13,10 @@ use std::alloc::{AllocError, Global};
 use std::cmp::max;
 use std::marker::Model;
 
-/// Which places have a turn owed, and who of them has the next one: who has had the least for its
+/// Which slots have a turn owed, and who of them has the next one: who has had the least for its
 /// turns.
 ///
-/// Each place has a virtual time, to which is added what its turns cost. It is due at its virtual
+/// Each slot has a virtual time, to which is added what its turns cost. It is due at its virtual
 /// time and what its next turn is expected to cost; who is due first of those that wait has the
 /// next turn, and of several the one that came first. So one whose turns cost little goes before
 /// those whose turns cost much, until it has had as much as they. A turn is expected to cost what
@@ -36,7 +36,7 @@ use std::marker::Model;
 pub struct FairQueue {
     light: Lane,
     held: Lane,
-    // By place: its virtual time, and what its next turn is expected to cost.
+    // By slot: its virtual time, and what its next turn is expected to cost.
     accounts: Vec<(u64, u64)>,
     clock: u64,
     budget: u64,
@@ -83,27 +83,27 @@ impl FairQueue {
         }
     }
 
-    /// Notes that a place is ready, or has more to do, and whether it is held. If it waits already
+    /// Says that a slot is ready, or has more to do, and whether it is held. If it waits already
     /// nothing changes.
     ///
     /// # Errors
     ///
     /// If memory is refused nothing changes.
-    pub fn add(&mut self, place: usize, is_held: bool) -> Result<(), AllocError>
+    pub fn add(&mut self, slot: usize, is_held: bool) -> Result<(), AllocError>
         ensures ok { OnOk result
-            (Comes (is_waiting place self.old) place is_held self.old self.new) }
+            (Comes (is_waiting slot self.old) slot is_held self.old self.new) }
         ensures err { OnErr result (IsSame self.old self.new) }
     {
-        if self.waits(place) {
+        if self.waits(slot) {
             return Ok(());
         }
-        let count = place.checked_add(1).ok_or(AllocError)?;
+        let count = slot.checked_add(1).ok_or(AllocError)?;
         open_accounts(&mut self.accounts, count)?;
-        let (time, cost) = self.accounts[place];
+        let (time, cost) = self.accounts[slot];
         let start = max(time, self.clock);
-        let ticket = (start.saturating_add(cost), self.number, place);
+        let ticket = (start.saturating_add(cost), self.number, slot);
         join(&mut self.light, &mut self.held, ticket, is_held)?;
-        self.accounts[place] = (start, cost);
+        self.accounts[slot] = (start, cost);
         self.number = self.number.saturating_add(1);
         Ok(())
     }
@@ -128,38 +128,38 @@ impl FairQueue {
         Some(ticket.2)
     }
 
-    /// What a place's turn cost, all at once, is added to its virtual time. A place that never came has
+    /// What a slot's turn cost, all at once, is added to its virtual time. A slot that never came has
     /// none. The clock goes on by its share for each of those that wait, of so many others that wait
     /// elsewhere, and for itself.
-    pub fn charge(&mut self, place: usize, cost: u64, others: u64)
-        ensures { PaysIf (is_known place self.old) place cost others self.old self.new }
+    pub fn charge(&mut self, slot: usize, cost: u64, others: u64)
+        ensures { PaysIf (is_known slot self.old) slot cost others self.old self.new }
     {
-        if place < self.accounts.len() {
-            let time = self.accounts[place].0.saturating_add(cost);
-            let expected = max(cost, self.accounts[place].1 / 2);
-            self.accounts[place] = (time, expected);
+        if slot < self.accounts.len() {
+            let time = self.accounts[slot].0.saturating_add(cost);
+            let expected = max(cost, self.accounts[slot].1 / 2);
+            self.accounts[slot] = (time, expected);
             let waiting = (self.len() as u64).saturating_add(others);
             let share = cost / waiting.saturating_add(1);
             self.clock = self.clock.saturating_add(share);
         }
     }
 
-    /// A place whose connection ended waits no more, and who comes there next is new.
-    pub fn remove(&mut self, place: usize)
-        ensures { Goes place self.old self.new }
+    /// A slot whose connection ended waits no more, and who comes there next is new.
+    pub fn remove(&mut self, slot: usize)
+        ensures { Goes slot self.old self.new }
     {
-        self.light.remove(place);
-        self.held.remove(place);
-        if place < self.accounts.len() {
-            self.accounts[place] = (0, 0);
+        self.light.remove(slot);
+        self.held.remove(slot);
+        if slot < self.accounts.len() {
+            self.accounts[slot] = (0, 0);
         }
     }
 
-    /// Whether a place waits.
-    pub fn waits(&self, place: usize) -> bool
-        ensures { result ≡ is_waiting place self.now }
+    /// Whether a slot waits.
+    pub fn waits(&self, slot: usize) -> bool
+        ensures { result ≡ is_waiting slot self.now }
     {
-        self.light.waits(place) || self.held.waits(place)
+        self.light.waits(slot) || self.held.waits(slot)
     }
 
     /// How many wait.
@@ -224,7 +224,7 @@ fn pop_first(light: &mut Lane, held: &mut Lane) -> Option<Ticket>
     }
 }
 
-// Makes room for the accounts of so many places.
+// Makes room for the accounts of so many slots.
 fn open_accounts(accounts: &mut Vec<(u64, u64)>, count: usize) -> Result<(), AllocError>
     ensures same { (k : ℕ)
         → get_or accounts.new.items k (0, 0) ≡ get_or accounts.old.items k (0, 0) }

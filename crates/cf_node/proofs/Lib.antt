@@ -2,4 +2,4 @@ pub mod Carrying
 pub mod Growing
 pub mod Handing
 pub mod Owning
-pub mod Turning
+pub mod Delivering

@@ -52,14 +52,11 @@ impl Acceptor {
         Ok(stream)
     }
 
-    /// Asks to be told when a connection's socket is ready, by the number of its place. `false`
+    /// Asks to be told when a connection's socket is ready, by the number of its slot. `false`
     /// where it can't be.
-    pub(crate) fn registers(&self, stream: &mut TcpStream, place: usize) -> bool {
+    pub(crate) fn registers(&self, stream: &mut TcpStream, slot: usize) -> bool {
         let interest = Interest::READABLE | Interest::WRITABLE;
-        let registered = self
-            .poll
-            .registry()
-            .register(stream, Token(place), interest);
+        let registered = self.poll.registry().register(stream, Token(slot), interest);
         registered.is_ok()
     }
 }

@@ -111,16 +111,16 @@ impl<N: Naming> AttachedClient<N> {
         self.refreshed = now;
     }
 
-    /// Its session, if it has one, sits at this place from now on.
-    pub(crate) fn sits_at(&self, owners: &mut Vec<usize>, place: usize) {
+    /// Its session, if it has one, sits at this slot from now on.
+    pub(crate) fn sits_at(&self, owners: &mut Vec<usize>, slot: usize) {
         if let Some(number) = self.standing.number() {
             if let Some(owner) = owners.get_mut(number as usize) {
-                *owner = place;
+                *owner = slot;
             }
         }
     }
 
-    /// The client is present in one channel more. Where memory is refused, it isn't noted, and its
+    /// The client is present in one channel more. Where memory is refused, it isn't kept, and its
     /// presence ends by itself.
     pub(crate) fn add(&mut self, channel: String) {
         for present in self.channels.iter() {

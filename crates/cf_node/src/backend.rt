@@ -51,7 +51,7 @@ pub(crate) trait Backend {
     fn is_crowded(&self) -> bool;
 
     /// A publication was accepted that costs so much.
-    fn note_accepted(&self, cost: u64);
+    fn count_accepted(&self, cost: u64);
 
     /// To how many clients of all nodes what is published in a channel goes, as far as the last
     /// publication there told.

@@ -141,7 +141,7 @@ impl<'a, B: Backend> CommandExecutor for CommandHandler<'a, B> {
                 ..
             })
         ) {
-            self.backend.note_accepted(cost);
+            self.backend.count_accepted(cost);
         }
         self.is_held = self.is_held || self.backend.is_crowded();
         match answer {
@@ -336,7 +336,7 @@ impl<'a, B: Backend> CommandHandler<'a, B> {
     /// The close goes out to the client.
     pub(crate) fn sees_close(&mut self, code: u16) {
         if code == CloseCode::Slow.code() {
-            self.note_slow();
+            self.count_slow();
         }
         self.stop();
     }
@@ -349,7 +349,7 @@ impl<'a, B: Backend> CommandHandler<'a, B> {
     }
 
     /// The client is too slow, which is counted once.
-    pub(crate) fn note_slow(&mut self) {
+    pub(crate) fn count_slow(&mut self) {
         if !self.client.is_slow {
             self.client.is_slow = true;
             self.backend.count(NodeError::Slow);

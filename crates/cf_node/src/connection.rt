@@ -12,7 +12,7 @@ use std::mem;
 /// The most bytes that a head may have.
 const LONGEST_HEAD: usize = 16_384;
 
-/// What stands at one place of the IO loop.
+/// What stands at one slot of the IO loop.
 #[derive(Drop)]
 pub(crate) enum Connection<'a, B: Backend> {
     Empty,

@@ -16,7 +16,7 @@ pub(crate) const TEXT: u64 = 256;
 const PUSH: u64 = 128;
 
 // So many counts are kept for each node. Channels whose names fall on one share it.
-const SLOTS: usize = 4_096;
+const BUCKETS: usize = 4_096;
 
 /// What a publication of so many bytes costs that goes to so many clients.
 pub(crate) fn cost_of(bytes: usize, clients: u64) -> u64 {
@@ -34,7 +34,7 @@ pub(crate) fn may_publish(text: &str) -> bool {
 /// And how far each node is with what was published.
 #[derive(Drop)]
 pub struct Reach {
-    // By node and slot.
+    // By node and bucket.
     counts: Vec<AtomicU64>,
     // How many publications the broker has accepted, and, by node, how many were brought to its hub.
     accepted: AtomicU64,
@@ -45,14 +45,14 @@ impl Reach {
     /// Nothing is known yet of channels at so many nodes. An error where memory is refused.
     pub fn new(alloc: Global, nodes: u8) -> Result<Reach, AllocError> {
         Ok(Reach {
-            counts: zeros(alloc, SLOTS.saturating_mul(usize::from(nodes)))?,
+            counts: zeros(alloc, BUCKETS.saturating_mul(usize::from(nodes)))?,
             accepted: AtomicU64::new(0),
             brought: zeros(alloc, usize::from(nodes))?,
         })
     }
 
     /// The broker has accepted a publication. How many it has accepted with that.
-    pub(crate) fn note_accepted(&self) -> u64 {
+    pub(crate) fn count_accepted(&self) -> u64 {
         self.accepted.fetch_add(1, Ordering::SeqCst).wrapping_add(1)
     }
 
@@ -64,23 +64,23 @@ impl Reach {
         }
     }
 
-    /// A publication in a channel whose name falls on this slot was brought to a node's hub, and went to so many of its clients.
-    pub(crate) fn note(&self, node: u8, slot: usize, clients: u32) {
+    /// A publication in a channel whose name falls into this bucket was brought to a node's hub, and went to so many of its clients.
+    pub(crate) fn keep_reach(&self, node: u8, bucket: usize, clients: u32) {
         if let Some(count) = self.brought.get(usize::from(node)) {
             count.fetch_add(1, Ordering::SeqCst);
         }
-        let at = usize::from(node).saturating_mul(SLOTS);
-        if let Some(count) = self.counts.get(at.saturating_add(slot)) {
+        let at = usize::from(node).saturating_mul(BUCKETS);
+        if let Some(count) = self.counts.get(at.saturating_add(bucket)) {
             count.store(clients as u64, Ordering::Relaxed);
         }
     }
 
     /// To how many clients the last publication in a channel went, at all nodes.
     pub(crate) fn clients(&self, channel: &str) -> u64 {
-        let slot = slot_of(channel);
+        let bucket = bucket_of(channel);
         let mut clients: u64 = 0;
-        for node in self.counts.chunks(SLOTS) {
-            if let Some(count) = node.get(slot) {
+        for node in self.counts.chunks(BUCKETS) {
+            if let Some(count) = node.get(bucket) {
                 clients = clients.saturating_add(count.load(Ordering::Relaxed));
             }
         }
@@ -97,11 +97,11 @@ fn zeros(alloc: Global, count: usize) -> Result<Vec<AtomicU64>, AllocError> {
     Ok(counts)
 }
 
-/// The slot on which a channel's name falls (FNV-1a).
-pub(crate) fn slot_of(channel: &str) -> usize {
+/// The bucket into which a channel's name falls (FNV-1a).
+pub(crate) fn bucket_of(channel: &str) -> usize {
     let mut hash: u64 = 0xcbf2_9ce4_8422_2325;
     for byte in channel.as_bytes() {
         hash = (hash ^ u64::from(*byte)).wrapping_mul(0x100_0000_01b3);
     }
-    (hash >> 32) as usize % SLOTS
+    (hash >> 32) as usize % BUCKETS
 }

@@ -2,7 +2,7 @@
 ghost use Rattle.std.specs.Prelude.{◌≡◌};
 ghost use Rattle.cf_dispatch.specs.Dispatch.{Dispatches};
 
-use crate::costs::{Reach, slot_of};
+use crate::costs::{Reach, bucket_of};
 use crate::gate::{DISPATCHER, Gate};
 use crate::shared::{MANY, Shared};
 use cf_dispatch::{Mailbox, pass_on};
@@ -32,7 +32,7 @@ pub(crate) struct NodeMailbox<'a, R, G, N: Naming, W> {
     // How many publications were brought under this lock, and sessions met them.
     met: u32,
     node: u8,
-    // Where it is noted how many clients a channel's publications go to.
+    // Where it is kept how many clients a channel's publications go to.
     reach: Option<&'a Reach>,
 }
 
@@ -58,7 +58,7 @@ impl<'a, R: Wait, G, N: Naming, W> NodeMailbox<'a, R, G, N, W> {
         }
     }
 
-    /// The same of the node of this number, which notes there how many clients publications reach.
+    /// The same of the node of this number, which keeps there how many clients publications reach.
     pub(crate) fn noting(
         mut self,
         node: u8,
@@ -97,7 +97,7 @@ impl<'a, R: Wait + Clock, G: Gate, N: Naming, W: ShardWords<N>> Mailbox
     ghost wakes = { λ old new. new ≡ old };
 
     fn receive(&mut self) -> Option<Delivery<N>> {
-        self.shared.note_turn(self.gate.now(self.rt));
+        self.shared.keep_turn(self.gate.now(self.rt));
         self.receiver
             .receive_within(self.rt, Duration::from_millis(LONGEST_SLEEP))
     }
@@ -112,11 +112,11 @@ impl<'a, R: Wait + Clock, G: Gate, N: Naming, W: ShardWords<N>> Mailbox
             }
         };
         let bytes = delivery.publication().body.len();
-        let slot = slot_of(delivery.channel());
+        let bucket = bucket_of(delivery.channel());
         let delivered = hub.deliver(self.words, delivery);
-        self.shared.note_brought(delivered.passed, bytes);
+        self.shared.count_brought(delivered.passed, bytes);
         if let Some(reach) = self.reach {
-            reach.note(self.node, slot, delivered.passed);
+            reach.keep_reach(self.node, bucket, delivered.passed);
         }
         if self.goes_on(&delivered) {
             self.hub = Some(hub);

@@ -10,7 +10,7 @@ use crate::error_counts::NodeError;
 use crate::gate::{Gate, IO_LOOP};
 use crate::leaving::Leaving;
 use crate::socket::Socket;
-use cf_dispatch::{GROUPS, Group, Outbox, Outlets, Rota, SESSIONS_AT_ONCE, Seconds, take_batch};
+use cf_dispatch::{GROUPS, Group, Outbox, Outlets, Rota, SESSIONS_AT_ONCE, Ticks, take_batch};
 use cf_fair::FairQueue;
 use cf_health::health_ask;
 use cf_protocol::CloseCode;
@@ -30,7 +30,7 @@ use std::{io, mem, thread};
 const MOST_ACCEPTED: usize = 64;
 
 /// So many connections a node has at most, those without a session among them.
-const MOST_PLACES: usize = 16_384;
+const MOST_SLOTS: usize = 16_384;
 
 /// A loop that took no turn for more seconds than these was held up, and so may the dispatcher have been: it has as long to turn.
 const SECONDS_HELD_UP: u64 = 2;
@@ -71,10 +71,10 @@ enum Accepts {
     Failed,
 }
 
-/// A place whose session the hub has named, and whether its socket takes more.
+/// A slot whose session the hub has named, and whether its socket takes more.
 #[derive(Clone, Copy, Drop)]
 struct Named {
-    place: usize,
+    slot: usize,
     is_free: bool,
 }
 
@@ -82,12 +82,12 @@ struct Named {
 struct IoLoop<'a, B: Backend> {
     backend: &'a B,
     acceptor: Acceptor,
-    places: Vec<Connection<'a, B>>,
-    // The places that stand empty.
+    slots: Vec<Connection<'a, B>>,
+    // The slots that stand empty.
     free: Vec<usize>,
-    // At which place each session of the hub is.
+    // At which slot each session of the hub is.
     owners: Vec<usize>,
-    // The places that have a turn to come, by group. Those are held that published while some node was
+    // The slots that have a turn to come, by group. Those are held that published while some node was
     // behind, or more than one turn of the loop sends. Each turn of the loop gives turns to some of each
     // group.
     cheap: FairQueue,
@@ -101,12 +101,12 @@ struct IoLoop<'a, B: Backend> {
     debt: u64,
     // The hub may have something for sessions that it wasn't asked for.
     is_behind: bool,
-    // The places whose sessions the hub has just named.
+    // The slots whose sessions the hub has just named.
     batch: Vec<Named>,
     // A buffer for what one turn sends, so that idle connections keep none.
     buffer: Vec<u8>,
     accepts: Accepts,
-    seconds: Seconds,
+    ticks: Ticks,
     // The moment of this turn.
     now: u64,
     // When it went on after it was held up.
@@ -129,7 +129,7 @@ pub(crate) fn serve<R: Wait + Clock, B: Backend, G: Gate>(
     let mut io_loop = IoLoop {
         backend,
         acceptor,
-        places: Vec::new(alloc),
+        slots: Vec::new(alloc),
         free: Vec::new(alloc),
         owners: Vec::new(alloc),
         cheap: FairQueue::new(alloc, LOOP_BUDGET),
@@ -142,26 +142,26 @@ pub(crate) fn serve<R: Wait + Clock, B: Backend, G: Gate>(
         batch: Vec::new(alloc),
         buffer: Vec::new(alloc),
         accepts: Accepts::All,
-        seconds: Seconds::new(),
+        ticks: Ticks::new(),
         now: 0,
         resumed: 0,
         stale,
     };
     let served = io_loop.run(rt, node, gate, stop);
-    let IoLoop { places, .. } = io_loop;
-    let_go(places);
+    let IoLoop { slots, .. } = io_loop;
+    let_go(slots);
     served
 }
 
 // The connections of a loop that has ended are over.
-fn let_go<B: Backend>(mut places: Vec<Connection<'_, B>>) {
-    while let Some(connection) = places.pop() {
+fn let_go<B: Backend>(mut slots: Vec<Connection<'_, B>>) {
+    while let Some(connection) = slots.pop() {
         match connection {
             Connection::Empty => {}
             Connection::Head(_) | Connection::Open(_) | Connection::Leaving(_) => {}
         }
     }
-    places.destroy_empty();
+    slots.destroy_empty();
 }
 
 // A connection whose head is whole: the handshake is answered, or the question whether the node
@@ -254,7 +254,7 @@ impl<'a, B: Backend> IoLoop<'a, B> {
         let is_done = self.is_idle()
             && !self.is_behind
             && self.accepts != Accepts::More
-            && !self.seconds.is_late();
+            && !self.ticks.is_late();
         let patience = if !is_done {
             0
         } else if self.cheap.is_empty() && self.dear.is_empty() && self.fresh.is_empty() {
@@ -277,7 +277,7 @@ impl<'a, B: Backend> IoLoop<'a, B> {
         self.is_behind && self.debt >= LOOP_BUDGET || self.backend.is_crowded()
     }
 
-    // One turn: what is ready is noted, who has a turn to come has it, and then comes a new second.
+    // One turn: what is ready is kept, who has a turn to come has it, and then comes a new second.
     fn turn(&mut self, events: &Events, now: u64) {
         if now.saturating_sub(self.now) > SECONDS_HELD_UP {
             self.resumed = now;
@@ -298,7 +298,7 @@ impl<'a, B: Backend> IoLoop<'a, B> {
         if !self.is_behind {
             self.backend.shared().catch_up();
         }
-        if self.seconds.turn_ends(now, count >= MOST_EVENTS) {
+        if self.ticks.turn_ends(now, count >= MOST_EVENTS) {
             self.on_tick();
         }
     }
@@ -306,15 +306,15 @@ impl<'a, B: Backend> IoLoop<'a, B> {
     // What comes with each new second: pings, rounds, and at node 0 the broker's time.
     fn on_tick(&mut self) {
         self.look_for_pongs();
-        self.backend.hub().tick(self.seconds.done());
-        for place in 0..self.places.len() {
-            if let Some(connection) = self.places.get_mut(place) {
-                if !connection.refresh(self.seconds.done(), self.stale) {
-                    self.end(place);
+        self.backend.hub().tick(self.ticks.done());
+        for slot in 0..self.slots.len() {
+            if let Some(connection) = self.slots.get_mut(slot) {
+                if !connection.refresh(self.ticks.done(), self.stale) {
+                    self.end(slot);
                 }
             }
         }
-        self.backend.tick(self.seconds.done());
+        self.backend.tick(self.ticks.done());
         if self.accepts == Accepts::Failed {
             self.accept_some();
         }
@@ -324,12 +324,12 @@ impl<'a, B: Backend> IoLoop<'a, B> {
     // Looks who answers its pings. Who waits for its turn may have answered, and so may who was just heard and had sent much: its
     // answer may have had no room in the socket.
     fn look_for_pongs(&mut self) {
-        for place in 0..self.places.len() {
-            let waits = self.waits(place);
-            if let Some(Connection::Open(open)) = self.places.get_mut(place) {
+        for slot in 0..self.slots.len() {
+            let waits = self.waits(slot);
+            if let Some(Connection::Open(open)) = self.slots.get_mut(slot) {
                 let is_unheard = open.desk.heard_much() || waits;
                 let handler = &mut open.desk.handler;
-                handler.looks_for_pong(self.seconds.done(), is_unheard);
+                handler.looks_for_pong(self.ticks.done(), is_unheard);
             }
         }
     }
@@ -343,12 +343,12 @@ impl<'a, B: Backend> IoLoop<'a, B> {
         } else if token != WAKER {
             let readable = event.is_readable();
             let ended = event.is_read_closed() || event.is_error();
-            match self.places.get_mut(token.0) {
+            match self.slots.get_mut(token.0) {
                 Some(Connection::Head(head)) => head.socket.notice(readable, ended),
                 Some(Connection::Open(open)) => {
                     open.wire.stream_mut().stream_mut().notice(readable, ended);
                     if ended {
-                        open.desk.handler.note_gone();
+                        open.desk.handler.keep_gone();
                     }
                     if event.is_error() && open.desk.is_held() {
                         return self.end(token.0);
@@ -363,40 +363,40 @@ impl<'a, B: Backend> IoLoop<'a, B> {
         }
     }
 
-    // A turn of the connection at a place is to come: held, where it published while some node was
+    // A turn of the connection at a slot is to come: held, where it published while some node was
     // behind, or has spent the bounds of its last turn on more than the loop sends in one, or what it
     // sent was put off.
-    fn owe(&mut self, place: usize) {
-        if self.waits(place) {
+    fn owe(&mut self, slot: usize) {
+        if self.waits(slot) {
             return;
         }
         let mut is_held = false;
         let mut group = Group::Cheap;
-        if let Some(Connection::Open(open)) = self.places.get_mut(place) {
+        if let Some(Connection::Open(open)) = self.slots.get_mut(slot) {
             let puts_off = open.desk.puts_off();
             let is_spent = open.is_spent;
             let handler = &mut open.desk.handler;
-            handler.is_owed(self.seconds.done());
+            handler.is_owed(self.ticks.done());
             is_held = handler.is_held || is_spent && handler.cost >= LOOP_BUDGET;
             group = handler.group(is_held);
             is_held = is_held || puts_off;
         }
-        if self.queue_of(group).add(place, is_held).is_err() {
-            self.end(place);
+        if self.queue_of(group).add(slot, is_held).is_err() {
+            self.end(slot);
         }
     }
 
-    // Whether a place waits for its turn.
-    fn waits(&self, place: usize) -> bool {
-        self.cheap.waits(place) || self.dear.waits(place) || self.fresh.waits(place)
+    // Whether a slot waits for its turn.
+    fn waits(&self, slot: usize) -> bool {
+        self.cheap.waits(slot) || self.dear.waits(slot) || self.fresh.waits(slot)
     }
 
     // What a turn cost counts for its connection, and for this turn of the loop: no further turn is
     // given in it behind one that has spent its bounds.
-    fn charge(&mut self, place: usize, cost: u64, is_spent: bool) {
+    fn charge(&mut self, slot: usize, cost: u64, is_spent: bool) {
         let others = self.fresh.len() as u64;
-        self.cheap.charge(place, cost, others);
-        self.dear.charge(place, cost, others);
+        self.cheap.charge(slot, cost, others);
+        self.dear.charge(slot, cost, others);
         let spent = if is_spent { LOOP_BUDGET } else { cost };
         self.spent = self.spent.saturating_add(spent);
         self.debt = self.debt.saturating_add(cost);
@@ -431,45 +431,45 @@ impl<'a, B: Backend> IoLoop<'a, B> {
         }
     }
 
-    // Gives a new connection its place. Where that fails, which is answered by `false`, the
+    // Gives a new connection its slot. Where that fails, which is answered by `false`, the
     // connection is dropped.
     fn put(&mut self, mut stream: TcpStream) -> bool {
-        if self.places.len().saturating_sub(self.free.len()) >= MOST_PLACES {
+        if self.slots.len().saturating_sub(self.free.len()) >= MOST_SLOTS {
             return false;
         }
-        let Ok(place) = self.empty_place() else {
+        let Ok(slot) = self.empty_slot() else {
             return false;
         };
-        let is_registered = self.acceptor.registers(&mut stream, place);
-        match self.places.get_mut(place) {
+        let is_registered = self.acceptor.registers(&mut stream, slot);
+        match self.slots.get_mut(slot) {
             Some(connection) if is_registered => {
                 let head = Connection::Head(Head {
                     socket: Socket::new(self.backend.alloc(), stream),
-                    accepted: self.seconds.done(),
+                    accepted: self.ticks.done(),
                 });
                 *connection = head;
             }
             _ => {
-                let _ = self.free.push(place);
+                let _ = self.free.push(slot);
                 return false;
             }
         }
-        // Its head may have come, and from then on what its turns cost is noted.
-        self.owe(place);
+        // Its head may have come, and from then on what its turns cost is counted.
+        self.owe(slot);
         true
     }
 
-    // A place that stands empty: a free one, or one more, with room for the owner of one session
+    // A slot that stands empty: a free one, or one more, with room for the owner of one session
     // more.
-    fn empty_place(&mut self) -> Result<usize, AllocError> {
-        if let Some(place) = self.free.pop() {
-            return Ok(place);
+    fn empty_slot(&mut self) -> Result<usize, AllocError> {
+        if let Some(slot) = self.free.pop() {
+            return Ok(slot);
         }
-        self.places.reserve(1)?;
+        self.slots.reserve(1)?;
         self.owners.push(0)?;
-        let place = self.places.len();
-        self.places.push_reserved(Connection::Empty);
-        Ok(place)
+        let slot = self.slots.len();
+        self.slots.push_reserved(Connection::Empty);
+        Ok(slot)
     }
 
     // What is sent is owed no more.
@@ -504,10 +504,10 @@ impl<'a, B: Backend> IoLoop<'a, B> {
         self.spent = 0;
         for heard in 0..self.queue_of(group).len() {
             let is_light = self.holds() || self.hears_light(group);
-            let Some(place) = next_of(self.queue_of(group), is_light) else {
+            let Some(slot) = next_of(self.queue_of(group), is_light) else {
                 return;
             };
-            if self.hears_enough(place, heard) {
+            if self.hears_enough(slot, heard) {
                 return;
             }
         }
@@ -530,32 +530,32 @@ impl<'a, B: Backend> IoLoop<'a, B> {
         }
     }
 
-    // The turn of the connection at a place, behind so many others. Whether turns have cost what this
+    // The turn of the connection at a slot, behind so many others. Whether turns have cost what this
     // turn of the loop may.
-    fn hears_enough(&mut self, place: usize, heard: usize) -> bool {
-        self.hear(place);
+    fn hears_enough(&mut self, slot: usize, heard: usize) -> bool {
+        self.hear(slot);
         if heard % HEARD_AT_ONCE == 0 {
             self.serve_named();
         }
         self.spent >= LOOP_BUDGET
     }
 
-    // The turn of the connection at a place: its head is read on, or its client is heard.
-    fn hear(&mut self, place: usize) {
-        if let Some(Connection::Head(head)) = self.places.get_mut(place) {
+    // The turn of the connection at a slot: its head is read on, or its client is heard.
+    fn hear(&mut self, slot: usize) {
+        if let Some(Connection::Head(head)) = self.slots.get_mut(slot) {
             match head.read_on() {
-                HeadStage::Partial => self.charge(place, CALL, false),
-                HeadStage::Whole => self.open(place),
-                HeadStage::Lost => self.end(place),
+                HeadStage::Partial => self.charge(slot, CALL, false),
+                HeadStage::Whole => self.open(slot),
+                HeadStage::Lost => self.end(slot),
             }
         } else {
-            self.serve(place, true);
+            self.serve(slot, true);
         }
     }
 
     // Answers a connection whose head is whole. Where there is no answer it is over.
-    fn open(&mut self, place: usize) {
-        let Some(connection) = self.places.get_mut(place) else {
+    fn open(&mut self, slot: usize) {
+        let Some(connection) = self.slots.get_mut(slot) else {
             return;
         };
         let head = mem::replace(connection, Connection::Empty);
@@ -564,18 +564,18 @@ impl<'a, B: Backend> IoLoop<'a, B> {
         let answered = opened(self.backend, head, is_well, self.now);
         *connection = answered;
         if matches!(connection, Connection::Empty) {
-            self.vacate(place);
+            self.vacate(slot);
         } else {
-            self.serve(place, true);
+            self.serve(slot, true);
         }
     }
 
-    // Turns the connection at a place, where its client is heard or only served, and wakes who brings
-    // on what was published in the turn. The place is its session's from then on. A turn in which it is
+    // Turns the connection at a slot, where its client is heard or only served, and wakes who brings
+    // on what was published in the turn. The slot is its session's from then on. A turn in which it is
     // heard is charged before another is owed.
-    fn serve(&mut self, place: usize, hears: bool) {
+    fn serve(&mut self, slot: usize, hears: bool) {
         let bars = hears && (self.holds() || !self.fresh.is_empty());
-        let Some(connection) = self.places.get_mut(place) else {
+        let Some(connection) = self.slots.get_mut(slot) else {
             return;
         };
         let mut cost = CALL;
@@ -585,13 +585,13 @@ impl<'a, B: Backend> IoLoop<'a, B> {
                 if hears {
                     // Who was put off has its turn now, as whole as any other's.
                     let bars = bars && !open.desk.puts_off();
-                    open.desk.handler.begin_turn(self.seconds.done(), bars);
+                    open.desk.handler.begin_turn(self.ticks.done(), bars);
                 }
-                let turned = open.turn(&mut self.buffer, self.seconds.done(), hears);
+                let turned = open.turn(&mut self.buffer, self.ticks.done(), hears);
                 cost = open.desk.handler.cost;
                 is_spent = open.is_spent;
                 open.desk.handler.ring();
-                open.desk.handler.client.sits_at(&mut self.owners, place);
+                open.desk.handler.client.sits_at(&mut self.owners, slot);
                 turned
             }
             Connection::Leaving(leaving) => leaving.turn(),
@@ -599,20 +599,20 @@ impl<'a, B: Backend> IoLoop<'a, B> {
             Connection::Empty | Connection::Head(_) => Turned::Idle,
         };
         if hears {
-            self.charge(place, cost, is_spent);
+            self.charge(slot, cost, is_spent);
         }
         match turned {
             Turned::Idle => {}
-            Turned::More => self.owe(place),
-            Turned::Leaves => self.see_off(place),
-            Turned::Over => self.end(place),
+            Turned::More => self.owe(slot),
+            Turned::Leaves => self.see_off(slot),
+            Turned::Over => self.end(slot),
         }
     }
 
-    // The last is written to the connection at a place: its client's session goes, and the socket
+    // The last is written to the connection at a slot: its client's session goes, and the socket
     // stays until its client has read that.
-    fn see_off(&mut self, place: usize) {
-        let Some(connection) = self.places.get_mut(place) else {
+    fn see_off(&mut self, slot: usize) {
+        let Some(connection) = self.slots.get_mut(slot) else {
             return;
         };
         match mem::replace(connection, Connection::Empty) {
@@ -624,12 +624,12 @@ impl<'a, B: Backend> IoLoop<'a, B> {
             }
             other => *connection = other,
         }
-        self.owe(place);
+        self.owe(slot);
     }
 
-    // The connection at a place is over: its socket is closed, and then its client's session goes.
-    fn end(&mut self, place: usize) {
-        let Some(connection) = self.places.get_mut(place) else {
+    // The connection at a slot is over: its socket is closed, and then its client's session goes.
+    fn end(&mut self, slot: usize) {
+        let Some(connection) = self.slots.get_mut(slot) else {
             return;
         };
         match mem::replace(connection, Connection::Empty) {
@@ -641,18 +641,18 @@ impl<'a, B: Backend> IoLoop<'a, B> {
             }
             Connection::Head(_) | Connection::Leaving(_) => {}
         }
-        self.vacate(place);
+        self.vacate(slot);
     }
 
-    // A place stands empty again.
-    fn vacate(&mut self, place: usize) {
-        self.cheap.remove(place);
-        self.dear.remove(place);
-        self.fresh.remove(place);
-        let _ = self.free.push(place);
+    // A slot stands empty again.
+    fn vacate(&mut self, slot: usize) {
+        self.cheap.remove(slot);
+        self.dear.remove(slot);
+        self.fresh.remove(slot);
+        let _ = self.free.push(slot);
     }
 
-    // Turns those for which the hub has something, some of them, and notes whether there may be more.
+    // Turns those for which the hub has something, some of them, and keeps whether there may be more.
     // What waits for some sessions is taken under one lock of the hub; what a socket has no room for
     // stays there.
     fn serve_named(&mut self) {
@@ -675,9 +675,9 @@ impl<'a, B: Backend> IoLoop<'a, B> {
     fn serve_batch(&mut self) {
         for index in 0..self.batch.len() {
             match self.batch.get(index).copied() {
-                Some(named) if named.is_free => self.serve(named.place, false),
+                Some(named) if named.is_free => self.serve(named.slot, false),
                 Some(named) => {
-                    if let Some(Connection::Open(open)) = self.places.get_mut(named.place) {
+                    if let Some(Connection::Open(open)) = self.slots.get_mut(named.slot) {
                         open.desk.handler.looks_for_end();
                     }
                 }
@@ -699,8 +699,8 @@ impl<'a, B: Backend> IoLoop<'a, B> {
                 break;
             }
         }
-        for place in 0..self.places.len() {
-            self.end(place);
+        for slot in 0..self.slots.len() {
+            self.end(slot);
         }
     }
 
@@ -710,9 +710,9 @@ impl<'a, B: Backend> IoLoop<'a, B> {
             self.notice(event);
         }
         let mut is_some = false;
-        for place in 0..self.places.len() {
-            if let Some(Connection::Leaving(_)) = self.places.get(place) {
-                self.serve(place, false);
+        for slot in 0..self.slots.len() {
+            if let Some(Connection::Leaving(_)) = self.slots.get(slot) {
+                self.serve(slot, false);
                 is_some = true;
             }
         }
@@ -721,8 +721,8 @@ impl<'a, B: Backend> IoLoop<'a, B> {
 
     // All sessions are closed with 3001.
     fn close_all(&mut self) {
-        for place in 0..self.places.len() {
-            if let Some(Connection::Open(open)) = self.places.get_mut(place) {
+        for slot in 0..self.slots.len() {
+            if let Some(Connection::Open(open)) = self.slots.get_mut(slot) {
                 // Its close is still to be told.
                 open.desk.owed = true;
                 let code = CloseCode::Shutdown.code();
@@ -731,13 +731,13 @@ impl<'a, B: Backend> IoLoop<'a, B> {
                     .client
                     .close(&mut self.backend.hub(), code);
             }
-            self.serve(place, false);
+            self.serve(slot, false);
         }
     }
 }
 
-// At which place a session's connection is, if it has one.
-fn place_of(owners: &[usize], session: u32) -> usize {
+// At which slot a session's connection is, if it has one.
+fn slot_of(owners: &[usize], session: u32) -> usize {
     owners.get(session as usize).copied().unwrap_or(0)
 }
 
@@ -750,7 +750,7 @@ impl<'a, B: Backend> Outlets for IoLoop<'a, B> {
     ghost gets = { λ _ _ _ _ _. Unit {0} };
 
     fn is_free(&self, session: u32) -> bool {
-        match self.places.get(place_of(&self.owners, session)) {
+        match self.slots.get(slot_of(&self.owners, session)) {
             Some(Connection::Open(open)) => {
                 open.desk.handler.client.is_of(session) && open.takes_more()
             }
@@ -759,21 +759,21 @@ impl<'a, B: Backend> Outlets for IoLoop<'a, B> {
     }
 
     fn lend(&mut self, session: u32) -> Outbox {
-        let place = place_of(&self.owners, session);
-        match self.places.get_mut(place) {
+        let slot = slot_of(&self.owners, session);
+        match self.slots.get_mut(slot) {
             Some(Connection::Open(open)) => open.desk.lend(session),
             _ => Outbox::new(self.backend.alloc()),
         }
     }
 
     fn give(&mut self, session: u32, outbox: Outbox, more: bool) {
-        let place = place_of(&self.owners, session);
-        let Some(Connection::Open(open)) = self.places.get_mut(place) else {
+        let slot = slot_of(&self.owners, session);
+        let Some(Connection::Open(open)) = self.slots.get_mut(slot) else {
             return;
         };
         let is_free = open.takes_more();
         open.desk.give(outbox, more);
         // There is room for it.
-        let _ = self.batch.push(Named { place, is_free });
+        let _ = self.batch.push(Named { slot, is_free });
     }
 }

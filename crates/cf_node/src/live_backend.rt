@@ -125,11 +125,11 @@ impl<'a, R: Wait, N: Naming, E: Epochs + Drop> Backend for LiveBackend<'a, R, N,
         self.broker.is_crowded(self.rt) && !self.is_brought()
     }
 
-    fn note_accepted(&self, cost: u64) {
+    fn count_accepted(&self, cost: u64) {
         let Some(reach) = self.setup.reach else {
             return;
         };
-        let accepted = reach.note_accepted();
+        let accepted = reach.count_accepted();
         let Ok(mut window) = self.window.try_borrow_mut() else {
             return;
         };

@@ -76,7 +76,7 @@ impl<'a, N: Naming> Setup<'a, N> {
         self
     }
 
-    /// The same, where what publications reach is noted here, for all nodes that share it. Without
+    /// The same, where what publications reach is kept here, for all nodes that share it. Without
     /// that a turn's cost doesn't tell who gets what is published in it.
     pub fn reaching(mut self, reach: &'a Reach) -> Setup<'a, N>
         ensures { result.node ≡ self.entry.node }

@@ -19,7 +19,7 @@ impl<'a, B: Backend> CommandHandler<'a, B> {
             // Its socket may take what waits for it for a while.
             let is_over = is_close_over(self.client.refreshed, now);
             if is_over {
-                self.note_slow();
+                self.count_slow();
             }
             return !is_over;
         }
@@ -83,7 +83,7 @@ impl<'a, B: Backend> CommandHandler<'a, B> {
 
     /// Nothing more comes of the client: it is present nowhere from now on, whatever of what it sent
     /// before is still to be carried out.
-    pub(crate) fn note_gone(&mut self) {
+    pub(crate) fn keep_gone(&mut self) {
         self.client.is_gone = true;
         self.leave_all();
     }

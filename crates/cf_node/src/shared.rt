@@ -80,7 +80,7 @@ impl<N: Naming> Shared<N> {
     }
 
     /// The dispatcher takes a turn at this moment.
-    pub(crate) fn note_turn(&self, now: u64) {
+    pub(crate) fn keep_turn(&self, now: u64) {
         self.turned_at.store(now, Ordering::SeqCst);
     }
 
@@ -127,7 +127,7 @@ impl<N: Naming> Shared<N> {
 
     /// A publication of so many bytes was pushed to so many clients' queues in the hub. Where it is a
     /// large one, its readers are left some time for it, a millisecond for each 32,768 bytes begun.
-    pub(crate) fn note_brought(&self, count: u32, bytes: usize) {
+    pub(crate) fn count_brought(&self, count: u32, bytes: usize) {
         self.met.store(count as u64, Ordering::SeqCst);
         if count == 0 {
             return;

@@ -7,8 +7,8 @@ use std::cmp::max;
 #[test]
 fn light_one_waits_for_one_turn(rt: HostRuntime) {
     let mut queue = FairQueue::new(rt.alloc(), 6_000_000);
-    for place in 0..300 {
-        queue.add(place, false).expect(&rt, "there is memory");
+    for slot in 0..300 {
+        queue.add(slot, false).expect(&rt, "there is memory");
     }
     let mut waited: usize = 0;
     let mut most: usize = 0;
@@ -18,17 +18,17 @@ fn light_one_waits_for_one_turn(rt: HostRuntime) {
             queue.add(300, false).expect(&rt, "there is memory");
             waited = 0;
         }
-        let place = queue.next().expect(&rt, "somebody waits");
-        if place == 300 {
+        let slot = queue.next().expect(&rt, "somebody waits");
+        if slot == 300 {
             heard = heard.saturating_add(1);
             if heard > 1 {
                 most = max(most, waited);
             }
-            queue.charge(place, 300, 0);
+            queue.charge(slot, 300, 0);
         } else {
             waited = waited.saturating_add(1);
-            queue.charge(place, 6_000_000, 0);
-            queue.add(place, false).expect(&rt, "there is memory");
+            queue.charge(slot, 6_000_000, 0);
+            queue.add(slot, false).expect(&rt, "there is memory");
         }
     }
     assert!(rt; heard > 600, "heard {heard} times");
@@ -39,15 +39,15 @@ fn light_one_waits_for_one_turn(rt: HostRuntime) {
 #[test]
 fn light_one_goes_before_a_burst(rt: HostRuntime) {
     let mut queue = FairQueue::new(rt.alloc(), 6_000_000);
-    for place in 0..301 {
-        queue.add(place, false).expect(&rt, "there is memory");
+    for slot in 0..301 {
+        queue.add(slot, false).expect(&rt, "there is memory");
     }
-    for place in 0..301 {
-        assert_eq!(rt; queue.next(), Some(place));
-        queue.charge(place, if place == 300 { 300 } else { 6_000_000 }, 0);
+    for slot in 0..301 {
+        assert_eq!(rt; queue.next(), Some(slot));
+        queue.charge(slot, if slot == 300 { 300 } else { 6_000_000 }, 0);
     }
-    for place in 0..301 {
-        queue.add(place, false).expect(&rt, "there is memory");
+    for slot in 0..301 {
+        queue.add(slot, false).expect(&rt, "there is memory");
     }
     assert_eq!(rt; queue.next(), Some(300));
     assert_eq!(rt; queue.next(), Some(0));

@@ -1,7 +1,7 @@
-use Rattle.cf_node.proofs.Turning.{turn_more}
+use Rattle.cf_node.proofs.Delivering.{one_delivery_more}
 use Rattle.cf_node.proofs.dispatcher.dispatch.Goals as goal
 
 pub loop-preserved-then-may : goal.loop-preserved-then-may
 loop-preserved-then-may g c =
-    turn_more g.M.Mailbox.receives g.M.Mailbox.brings g.M.Mailbox.wakes c.args.mailbox.now c.loop.mailbox
+    one_delivery_more g.M.Mailbox.receives g.M.Mailbox.brings g.M.Mailbox.wakes c.args.mailbox.now c.loop.mailbox
     c.pass_on.new.mailbox c.loop.invariant c.pass_on.ensures

@@ -5,4 +5,4 @@ abbrev pub invariant-loop-connection : goal.invariant-loop-connection
 invariant-loop-connection g l = Unit {0}
 
 abbrev pub decreases-loop-connection : goal.decreases-loop-connection
-decreases-loop-connection g l = vec_len l.places
+decreases-loop-connection g l = vec_len l.slots

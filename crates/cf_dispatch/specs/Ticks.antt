@@ -21,8 +21,8 @@ abbrev pub is_due : Clock → ℕ → Bool → Bool
 is_due k now may_be_more = not (now == k.done) && not (waits k may_be_more)
 
 -- the clock after a turn that ends at this moment
-abbrev pub second_after : Clock → ℕ → Bool → Clock
-second_after k now may_be_more =
+abbrev pub tick_after : Clock → ℕ → Bool → Clock
+tick_after k now may_be_more =
     if now == k.done then k
     else if waits k may_be_more then record k { late = k.late + 1 }
     else record { done = now; late = 0 }

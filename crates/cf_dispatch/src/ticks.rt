@@ -6,28 +6,28 @@ pub const MOST_LATE: u32 = 40;
 
 /// The last second whose work was done, and by how many turns the next one is late.
 #[derive(Drop)]
-pub struct Seconds {
+pub struct Ticks {
     done: u64,
     late: u32,
 }
 
-impl Model for Seconds {
-    ghost use Rattle.cf_dispatch.specs.Seconds.{Clock};
+impl Model for Ticks {
+    ghost use Rattle.cf_dispatch.specs.Ticks.{Clock};
 
     ghost Value = { Clock };
 
     ghost view = { λ s. record { done = s.done; late = s.late } };
 }
 
-impl Seconds {
+impl Ticks {
     ghost use Rattle.std.specs.Prelude.{◌≡◌, ◌<◌, ◌↔◌, IsTrue, not};
-    ghost use Rattle.cf_dispatch.specs.Seconds.{second_after, is_due, new_clock};
+    ghost use Rattle.cf_dispatch.specs.Ticks.{tick_after, is_due, new_clock};
 
     /// At second 0, whose work is done.
-    pub fn new() -> Seconds
+    pub fn new() -> Ticks
         ensures { result ≡ new_clock }
     {
-        Seconds { done: 0, late: 0 }
+        Ticks { done: 0, late: 0 }
     }
 
     /// The last second whose work was done.
@@ -48,7 +48,7 @@ impl Seconds {
     /// second is to be done now: where there is one, and no more sockets may be ready, or it has waited for these for 40 turns.
     pub fn turn_ends(&mut self, now: u64, may_be_more: bool) -> bool
         ensures due { result ≡ is_due self.old now may_be_more }
-        ensures after { self.new ≡ second_after self.old now may_be_more }
+        ensures after { self.new ≡ tick_after self.old now may_be_more }
     {
         if now == self.done {
             return false;
