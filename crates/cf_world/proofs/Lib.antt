@@ -8,6 +8,7 @@ pub mod Named
 pub mod Ends
 pub mod Looking
 pub mod Counts
+pub mod LinksTie
 pub mod NodesTie
 pub mod Rooms
 pub mod Going

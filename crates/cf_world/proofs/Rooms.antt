@@ -16,7 +16,8 @@ use Rattle.cf_world.specs.HubCalls.{IsSound}
 use Rattle.cf_world.specs.NodesTie.{IsAtAddress, ShowsNodes, session_at}
 use Rattle.cf_world.specs.declared.clients.SessionAddress.{SessionAddress}
 use Rattle.cf_world.proofs.Counts.{Addresses, all_rows, full, mine, room}
-use Rattle.cf_world.proofs.NodesTie.{away_shows, number_at, address_shows, addresses_at}
+use Rattle.cf_world.proofs.LinksTie.{number_at}
+use Rattle.cf_world.proofs.NodesTie.{away_shows, address_shows, addresses_at}
 
 module _ {cfg : Config} {hubs : ℕ → Option Node} {addresses : List ℕ → Option SessionAddress} {m : World}
     (t : ShowsNodes cfg hubs addresses m) where

@@ -31,7 +31,8 @@ use Rattle.cf_world.specs.declared.clients.Peer.{Peer}
 use Rattle.cf_world.specs.declared.clients.SessionAddress.{SessionAddress}
 use Rattle.cf_client.specs.ClientView.{state_of}
 use Rattle.cf_world.proofs.Ends.{checks_keeps, finishes_keeps}
-use Rattle.cf_world.proofs.NodesTie.{away_shows, both_name, deliver_goes, met_name, nodes_same, address_shows}
+use Rattle.cf_world.proofs.LinksTie.{both_name, met_name}
+use Rattle.cf_world.proofs.NodesTie.{away_shows, deliver_goes, nodes_same, address_shows}
 use Rattle.cf_world.proofs.Owned.{check-rest, checks-own, comes-own, finish-rest, finishes-own}
 use Rattle.cf_world.proofs.Sitting.{hub_there, session-may-go}
 

@@ -21,7 +21,8 @@ use Rattle.cf_world.specs.declared.clients.Peer.{Peer}
 use Rattle.cf_world.specs.declared.clients.SessionAddress.{SessionAddress}
 use Rattle.cf_world.proofs.Ends.{Keeps}
 use Rattle.cf_machine.proofs.Names.{with-all}
-use Rattle.cf_world.proofs.NodesTie.{nodes_same, address_shows, session_goes, session_moves}
+use Rattle.cf_world.proofs.LinksTie.{session_moves}
+use Rattle.cf_world.proofs.NodesTie.{nodes_same, address_shows, session_goes}
 
 -- ---- the client of a name
 
