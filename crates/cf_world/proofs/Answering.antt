@@ -36,8 +36,8 @@ use Rattle.cf_world.proofs.Ends.{Keeps, closes_keeps, push_keeps}
 use Rattle.cf_world.proofs.Exchanged.{after}
 use Rattle.cf_world.proofs.Exchanging.{exchange_goes, sat}
 use Rattle.cf_world.proofs.Going.{Stays}
-use Rattle.cf_world.proofs.LinksTie.{LinkGoes, link_asks, link_goes, met_name}
-use Rattle.cf_world.proofs.NodesTie.{one_name, address_shows}
+use Rattle.cf_world.proofs.LinksTie.{LinkGoes, link_asks, link_goes, met_name, one_name}
+use Rattle.cf_world.proofs.NodesTie.{address_shows}
 use Rattle.cf_world.proofs.Owned.{push-own}
 use Rattle.cf_world.proofs.SentOwn.{own_sent}
 use Rattle.cf_world.proofs.Sitting.{client_here, hub_there}

@@ -64,8 +64,8 @@ use Rattle.cf_world.proofs.Exchanged.{after, exchange_as, met, met_ask, met_hist
 use Rattle.cf_world.proofs.Exchanging.{exchange_goes, sat}
 use Rattle.cf_world.proofs.Going.{Stays, grown-opened, grown-publish, publish-repeat}
 use Rattle.cf_world.proofs.Looking.{off_at, off_is, open_at}
-use Rattle.cf_world.proofs.LinksTie.{link_goes, met_name}
-use Rattle.cf_world.proofs.NodesTie.{one_name, address_shows}
+use Rattle.cf_world.proofs.LinksTie.{link_goes, met_name, one_name}
+use Rattle.cf_world.proofs.NodesTie.{address_shows}
 use Rattle.cf_world.proofs.Owned.{push-own}
 use Rattle.cf_world.proofs.Passing.{publish-set-up}
 use Rattle.cf_world.proofs.Reading.{Missing}

@@ -34,7 +34,8 @@ use Rattle.cf_world.specs.declared.clients.SessionAddress.{SessionAddress}
 use Rattle.cf_world.proofs.Ends.{reads_keeps}
 use Rattle.cf_world.proofs.Going.{Stays, broker-goes, broker-stays, grown-opened}
 use Rattle.cf_world.proofs.Looking.{asks_at}
-use Rattle.cf_world.proofs.NodesTie.{one_name, address_shows}
+use Rattle.cf_world.proofs.LinksTie.{one_name}
+use Rattle.cf_world.proofs.NodesTie.{address_shows}
 use Rattle.cf_world.proofs.Owned.{reads-own}
 use Rattle.cf_world.proofs.Reading.{Missing, are-missed, reading-is}
 use Rattle.cf_world.proofs.Passing.{set-up}

@@ -26,7 +26,8 @@ use Rattle.cf_world.specs.declared.clients.Peer.{Peer}
 use Rattle.cf_world.specs.declared.clients.SessionAddress.{SessionAddress}
 use Rattle.cf_world.proofs.Breaking.{breaks-goes}
 use Rattle.cf_world.proofs.Ends.{takes_keeps}
-use Rattle.cf_world.proofs.NodesTie.{one_name, address_shows}
+use Rattle.cf_world.proofs.LinksTie.{one_name}
+use Rattle.cf_world.proofs.NodesTie.{address_shows}
 use Rattle.cf_world.proofs.Served.{opens-away, rests}
 use Rattle.cf_world.proofs.Sitting.{Owns, hub_there, session-may-go}
 
