@@ -3,19 +3,22 @@ ghost use Rattle.std.specs.Prelude.{◌≡◌, ◌↔◌, ◌≤◌, IfOk, IfSom
 ghost use Rattle.cf_dispatch.specs.Standing.{looked};
 ghost use Rattle.cf_node.specs.Desk.{TakesOwn};
 ghost use Rattle.cf_node.specs.Own.{BeginsOwn, MovesOwn, OpensOwn, TouchesOwn};
+ghost use Rattle.cf_node_hub.specs.Asking.{Answers};
 ghost use Rattle.cf_node_hub.specs.Histories.{RepliesHistory};
 ghost use Rattle.cf_node_hub.specs.Told.{IsReply};
 ghost use Rattle.cf_shard.specs.Shards.{number_of};
 
-use cf_dispatch::{Outbox, PongWatch, Standing, take_for};
+use cf_dispatch::{Outbox, Outlets, PongWatch, Standing, take_batch, take_for};
 use cf_hub::{Checked, Queued};
 use cf_node_hub::{Begun, NodeHub};
 use cf_order::Pass;
 use cf_protocol::{ErrorCode, Position};
 use cf_session::hub_error;
 use cf_shard::{Naming, ShardWords};
+use cf_stream::Recovery;
 use std::alloc::Global;
 use std::collections::VecDeque;
+use std::sync::MutexGuard;
 
 /// A channel in which a client is present.
 #[derive(Drop)]
@@ -27,7 +30,7 @@ pub(crate) struct Present {
 }
 
 /// What the node keeps of a client. Which session of the hub is its own is known here alone: what is done there for it is done by
-/// the calls below, each of which says what it changes in the hub that it is lent.
+/// the private calls below, each of which says what it changes in the hub that it is lent.
 #[derive(Drop)]
 pub(crate) struct AttachedClient<N: Naming> {
     // The number of its session in the hub, once it is attached, and whether it is over.
@@ -82,13 +85,6 @@ impl<N: Naming> AttachedClient<N> {
         self.standing.number() == Some(session)
     }
 
-    /// Whether what was taken from the hub is its session's; where it has none, whether it is of none.
-    pub(crate) fn owns(&self, outbox: &Outbox) -> bool
-        ensures { IsTrue result ↔ (outbox.now.session ≡ self.now.standing.number) }
-    {
-        outbox.session() == self.standing.number()
-    }
-
     /// Whether its session is over, as far as was looked or told.
     pub(crate) fn is_over(&self) -> bool
         ensures { result ≡ self.now.standing.is_over }
@@ -96,8 +92,8 @@ impl<N: Naming> AttachedClient<N> {
         self.standing.is_over()
     }
 
-    /// Looks in the hub whether its session is over.
-    pub(crate) fn look(&mut self, hub: &NodeHub<N>)
+    // Looks in the hub whether its session is over.
+    fn look(&mut self, hub: &NodeHub<N>)
         ensures { self.new.standing ≡ looked hub.now.node self.old.standing }
     {
         self.standing.look(hub);
@@ -134,8 +130,8 @@ impl<N: Naming> AttachedClient<N> {
         });
     }
 
-    /// A session for a user. The answer is the client's id.
-    pub(crate) fn attach(
+    // A session for a user. The answer is the client's id.
+    fn attach(
         &mut self,
         hub: &mut NodeHub<N>,
         alloc: Global,
@@ -165,8 +161,8 @@ impl<N: Naming> AttachedClient<N> {
         }
     }
 
-    /// A subscription to a channel begins, for the command of this id; none has the id 0.
-    pub(crate) fn begin<W: ShardWords<N>>(
+    // A subscription to a channel begins, for the command of this id; none has the id 0.
+    fn begin<W: ShardWords<N>>(
         &mut self,
         hub: &mut NodeHub<N>,
         words: &W,
@@ -222,8 +218,8 @@ impl<N: Naming> AttachedClient<N> {
         }
     }
 
-    /// The subscription is finished. Whether it stands then.
-    pub(crate) fn finish(&self, hub: &mut NodeHub<N>, channel: &str) -> bool
+    // The subscription is finished. Whether it stands then.
+    fn finish(&self, hub: &mut NodeHub<N>, channel: &str) -> bool
         ensures { TouchesOwn self.now.standing.number hub.old.node hub.new.node }
     {
         let Some(number) = self.standing.number() else {
@@ -233,8 +229,8 @@ impl<N: Naming> AttachedClient<N> {
         hub.is_subscribed(number, channel)
     }
 
-    /// The client leaves a channel.
-    pub(crate) fn leave(&self, hub: &mut NodeHub<N>, channel: &str)
+    // The client leaves a channel.
+    fn leave(&self, hub: &mut NodeHub<N>, channel: &str)
         ensures { TouchesOwn self.now.standing.number hub.old.node hub.new.node }
     {
         if let Some(number) = self.standing.number() {
@@ -242,9 +238,9 @@ impl<N: Naming> AttachedClient<N> {
         }
     }
 
-    /// A reply that brings no publications waits for the client, or its session is closed. `false` where that is closed then, or
-    /// gone.
-    pub(crate) fn say(&self, hub: &mut NodeHub<N>, text: String) -> bool
+    // A reply that brings no publications waits for the client, or its session is closed. `false` where that is closed then, or
+    // gone.
+    fn say(&self, hub: &mut NodeHub<N>, text: String) -> bool
         requires { IsReply (string_bytes text) }
         ensures { TouchesOwn self.now.standing.number hub.old.node hub.new.node }
     {
@@ -254,8 +250,8 @@ impl<N: Naming> AttachedClient<N> {
         }
     }
 
-    /// The same of the reply to a history of a channel, with the pass by which that was answered.
-    pub(crate) fn say_history<W: ShardWords<N>>(
+    // The same of the reply to a history of a channel, with the pass by which that was answered.
+    fn say_history<W: ShardWords<N>>(
         &self,
         hub: &mut NodeHub<N>,
         words: &W,
@@ -273,8 +269,8 @@ impl<N: Naming> AttachedClient<N> {
         }
     }
 
-    /// The hub owes its session no answer to a ping.
-    pub(crate) fn pong(&self, hub: &mut NodeHub<N>)
+    // The hub owes its session no answer to a ping.
+    fn pong(&self, hub: &mut NodeHub<N>)
         ensures { TouchesOwn self.now.standing.number hub.old.node hub.new.node }
     {
         if let Some(number) = self.standing.number() {
@@ -282,8 +278,8 @@ impl<N: Naming> AttachedClient<N> {
         }
     }
 
-    /// Its session is closed with this code.
-    pub(crate) fn close(&self, hub: &mut NodeHub<N>, code: u16)
+    // Its session is closed with this code.
+    fn close(&self, hub: &mut NodeHub<N>, code: u16)
         ensures { TouchesOwn self.now.standing.number hub.old.node hub.new.node }
     {
         if let Some(number) = self.standing.number() {
@@ -291,13 +287,8 @@ impl<N: Naming> AttachedClient<N> {
         }
     }
 
-    /// Checks a subscription of its session against where the channel's stream stands.
-    pub(crate) fn check(
-        &self,
-        hub: &mut NodeHub<N>,
-        channel: &str,
-        top: Option<Position>,
-    ) -> Checked
+    // Checks a subscription of its session against where the channel's stream stands.
+    fn check(&self, hub: &mut NodeHub<N>, channel: &str, top: Option<Position>) -> Checked
         ensures { TouchesOwn self.now.standing.number hub.old.node hub.new.node }
     {
         match self.standing.number() {
@@ -306,8 +297,8 @@ impl<N: Naming> AttachedClient<N> {
         }
     }
 
-    /// Takes what waits for its session, and puts it behind what was taken for it before. Whether more may wait.
-    pub(crate) fn take(&self, hub: &mut NodeHub<N>, outbox: &mut Outbox) -> bool
+    // Takes what waits for its session, and puts it behind what was taken for it before. Whether more may wait.
+    fn take(&self, hub: &mut NodeHub<N>, outbox: &mut Outbox) -> bool
         ensures own { TakesOwn self.now.standing.number outbox.old outbox.new }
         ensures moves { MovesOwn self.now.standing.number hub.old.node hub.new.node
             outbox.old.outs.items outbox.new.outs.items }
@@ -318,8 +309,8 @@ impl<N: Naming> AttachedClient<N> {
         }
     }
 
-    /// Its session goes. From then on it has none, and what it had is over.
-    pub(crate) fn detach(&mut self, hub: &mut NodeHub<N>)
+    // Its session goes. From then on it has none, and what it had is over.
+    fn detach(&mut self, hub: &mut NodeHub<N>)
         ensures own { TouchesOwn self.old.standing.number hub.old.node hub.new.node }
         ensures none { self.new.standing.number ≡ None }
     {
@@ -330,8 +321,8 @@ impl<N: Naming> AttachedClient<N> {
         self.standing.end();
     }
 
-    /// Forgets the mark of each subscription that has ended meanwhile.
-    pub(crate) fn forgets_ended(&mut self, hub: &NodeHub<N>) {
+    // Forgets the mark of each subscription that has ended meanwhile.
+    fn forgets_ended(&mut self, hub: &NodeHub<N>) {
         let Some(number) = self.standing.number() else {
             return;
         };
@@ -340,5 +331,142 @@ impl<N: Naming> AttachedClient<N> {
                 present.mark = None;
             }
         }
+    }
+}
+
+/// A node's hub, under its lock. What can be done there is done by these calls: for a client's own session, or for all of them.
+#[derive(Drop)]
+pub(crate) struct LockedHub<'a, N: Naming> {
+    hub: MutexGuard<'a, NodeHub<N>>,
+}
+
+impl<'a, N: Naming> LockedHub<'a, N> {
+    /// The hub, as it was locked.
+    pub(crate) fn new(hub: MutexGuard<'a, NodeHub<N>>) -> LockedHub<'a, N> {
+        LockedHub { hub }
+    }
+
+    /// A session for a user, which is the client's own from then on. The answer is the client's id.
+    pub(crate) fn attach(
+        &mut self,
+        client: &mut AttachedClient<N>,
+        alloc: Global,
+        user: String,
+        now: u64,
+    ) -> Result<String, ErrorCode> {
+        client.attach(&mut self.hub, alloc, user, now)
+    }
+
+    /// A subscription of the client to a channel begins, for the command of this id; none has the id 0.
+    pub(crate) fn begin<W: ShardWords<N>>(
+        &mut self,
+        client: &mut AttachedClient<N>,
+        words: &W,
+        channel: String,
+        id: u32,
+        since: Option<Position>,
+    ) -> Result<(), ErrorCode> {
+        client.begin(&mut self.hub, words, channel, id, since)
+    }
+
+    /// What was read for what began is taken, with the pass by which it was.
+    pub(crate) fn read_done<W: ShardWords<N>>(
+        &mut self,
+        words: &W,
+        begun: Begun<N>,
+        recovery: Recovery,
+        pass: Pass,
+    )
+        requires word { pass.word ≡ N.words (number_of begun.channel) }
+        requires read { Answers N.namespaces begun pass.log recovery }
+    {
+        self.hub.read_done(words, begun, recovery, pass);
+    }
+
+    /// A subscription of the client is finished. Whether it stands then.
+    pub(crate) fn finish(&mut self, client: &AttachedClient<N>, channel: &str) -> bool {
+        client.finish(&mut self.hub, channel)
+    }
+
+    /// The client leaves a channel.
+    pub(crate) fn leave(&mut self, client: &AttachedClient<N>, channel: &str) {
+        client.leave(&mut self.hub, channel);
+    }
+
+    /// A reply that brings no publications waits for the client, or its session is closed. `false` where that is closed then, or
+    /// gone.
+    pub(crate) fn say(&mut self, client: &AttachedClient<N>, text: String) -> bool
+        requires { IsReply (string_bytes text) }
+    {
+        client.say(&mut self.hub, text)
+    }
+
+    /// The same of the reply to a history of a channel, with the pass by which that was answered.
+    pub(crate) fn say_history<W: ShardWords<N>>(
+        &mut self,
+        client: &AttachedClient<N>,
+        words: &W,
+        channel: &str,
+        text: String,
+        pass: Pass,
+    ) -> bool
+        requires word { pass.word ≡ N.words (number_of channel.now) }
+        requires replies { RepliesHistory N.namespaces pass.log channel.now (string_bytes text) }
+    {
+        client.say_history(&mut self.hub, words, channel, text, pass)
+    }
+
+    /// The hub owes the client's session no answer to a ping.
+    pub(crate) fn pong(&mut self, client: &AttachedClient<N>) {
+        client.pong(&mut self.hub);
+    }
+
+    /// The client's session is closed with this code.
+    pub(crate) fn close(&mut self, client: &AttachedClient<N>, code: u16) {
+        client.close(&mut self.hub, code);
+    }
+
+    /// Checks a subscription of the client against where the channel's stream stands.
+    pub(crate) fn check(
+        &mut self,
+        client: &AttachedClient<N>,
+        channel: &str,
+        top: Option<Position>,
+    ) -> Checked {
+        client.check(&mut self.hub, channel, top)
+    }
+
+    /// Takes what waits for the client, and puts it behind what was taken for it before. Whether more may wait.
+    pub(crate) fn take(&mut self, client: &AttachedClient<N>, outbox: &mut Outbox) -> bool
+        ensures { TakesOwn client.now.standing.number outbox.old outbox.new }
+    {
+        client.take(&mut self.hub, outbox)
+    }
+
+    /// The client's session goes. From then on it has none, and what it had is over.
+    pub(crate) fn detach(&mut self, client: &mut AttachedClient<N>)
+        ensures { client.new.standing.number ≡ None }
+    {
+        client.detach(&mut self.hub);
+    }
+
+    /// Looks whether the client's session is over.
+    pub(crate) fn look(&self, client: &mut AttachedClient<N>) {
+        client.look(&self.hub);
+    }
+
+    /// Forgets the mark of each subscription of the client that has ended meanwhile.
+    pub(crate) fn forgets_ended(&self, client: &mut AttachedClient<N>) {
+        client.forgets_ended(&self.hub);
+    }
+
+    /// A moment comes to all sessions, in seconds.
+    pub(crate) fn tick(&mut self, now: u64) {
+        self.hub.tick(now);
+    }
+
+    /// Gives some of those sessions their turns for which something waits, as `take_batch` of cf_dispatch does.
+    pub(crate) fn give_turns<O: Outlets<Of = N>>(&mut self, outlets: &mut O) {
+        take_batch(&mut self.hub, outlets);
     }
 }
