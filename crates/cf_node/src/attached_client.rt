@@ -1,9 +1,14 @@
 //! What the node keeps of a client, and what is done in the hub for it, while the hub is lent.
-ghost use Rattle.std.specs.Prelude.{◌≡◌, ◌↔◌, ◌≤◌, IfOk, IfSome, IsTrue, None, OnOk, Some, is_some, string_bytes, true};
+ghost use Rattle.std.specs.Prelude.{◌≡◌, ◌↔◌, ◌≤◌, IfOk, IfSome, IsTrue, None, OnErr, OnOk, Some, is_some, string_bytes, true};
+ghost use Rattle.cf_model.specs.Sessions.{reads};
+ghost use Rattle.cf_hub.specs.Hub.{One, OthersStay, Ticks, sub_at};
+ghost use Rattle.cf_hub.specs.Subscriptions.{reading_of};
+ghost use Rattle.cf_hub.specs.Wordings.{reading};
+ghost use Rattle.cf_dispatch.specs.Batch.{TakesBatch, most_at_once};
 ghost use Rattle.cf_dispatch.specs.Standing.{looked};
 ghost use Rattle.cf_node.specs.Desk.{TakesOwn};
-ghost use Rattle.cf_node.specs.Own.{BeginsOwn, MovesOwn, OpensOwn, TouchesOwn};
-ghost use Rattle.cf_node_hub.specs.Asking.{Answers};
+ghost use Rattle.cf_node.specs.Own.{BeginsOwn, Checks, Closes, Finishes, Goes, Leaves, MovesOwn, OpensOwn, Pongs, Says, SparesOthers, ToOwn};
+ghost use Rattle.cf_node_hub.specs.Asking.{Answers, IsAskedFrom};
 ghost use Rattle.cf_node_hub.specs.Histories.{RepliesHistory};
 ghost use Rattle.cf_node_hub.specs.Told.{IsReply};
 ghost use Rattle.cf_shard.specs.Shards.{number_of};
@@ -18,6 +23,7 @@ use cf_shard::{Naming, ShardWords};
 use cf_stream::Recovery;
 use std::alloc::Global;
 use std::collections::VecDeque;
+use std::marker::Model;
 use std::sync::MutexGuard;
 
 /// A channel in which a client is present.
@@ -138,8 +144,10 @@ impl<N: Naming> AttachedClient<N> {
         user: String,
         now: u64,
     ) -> Result<String, ErrorCode>
-        ensures { OnOk result (OpensOwn self.new.standing.number (string_bytes user) now
+        ensures ok { OnOk result (OpensOwn self.new.standing.number (string_bytes user) now
             hub.old.node hub.new.node) }
+        ensures err { OnErr result (SparesOthers self.new.standing.number hub.old.node
+            hub.new.node) }
     {
         match user.clone() {
             Ok(kept) => self.user = kept,
@@ -170,8 +178,9 @@ impl<N: Naming> AttachedClient<N> {
         id: u32,
         since: Option<Position>,
     ) -> Result<(), ErrorCode>
-        ensures { OnOk result (BeginsOwn self.old.standing.number (string_bytes channel) id since
+        ensures ok { OnOk result (BeginsOwn self.old.standing.number (string_bytes channel) id since
             hub.old.node hub.new.node) }
+        ensures err { OnErr result (SparesOthers None hub.old.node hub.new.node) }
     {
         let Some(number) = self.standing.number() else {
             return Err(ErrorCode::Internal);
@@ -220,7 +229,8 @@ impl<N: Naming> AttachedClient<N> {
 
     // The subscription is finished. Whether it stands then.
     fn finish(&self, hub: &mut NodeHub<N>, channel: &str) -> bool
-        ensures { TouchesOwn self.now.standing.number hub.old.node hub.new.node }
+        ensures { ToOwn (Finishes channel.now) self.now.standing.number hub.old.node
+            hub.new.node }
     {
         let Some(number) = self.standing.number() else {
             return false;
@@ -231,18 +241,20 @@ impl<N: Naming> AttachedClient<N> {
 
     // The client leaves a channel.
     fn leave(&self, hub: &mut NodeHub<N>, channel: &str)
-        ensures { TouchesOwn self.now.standing.number hub.old.node hub.new.node }
+        ensures { ToOwn (Leaves channel.now) self.now.standing.number hub.old.node hub.new.node }
     {
-        if let Some(number) = self.standing.number() {
-            hub.leave(number, channel);
-        }
+        let Some(number) = self.standing.number() else {
+            return;
+        };
+        hub.leave(number, channel);
     }
 
     // A reply that brings no publications waits for the client, or its session is closed. `false` where that is closed then, or
     // gone.
     fn say(&self, hub: &mut NodeHub<N>, text: String) -> bool
         requires { IsReply (string_bytes text) }
-        ensures { TouchesOwn self.now.standing.number hub.old.node hub.new.node }
+        ensures { ToOwn (Says (string_bytes text)) self.now.standing.number hub.old.node
+            hub.new.node }
     {
         match self.standing.number() {
             Some(number) => hub.say(number, text) == Queued::Kept,
@@ -261,7 +273,8 @@ impl<N: Naming> AttachedClient<N> {
     ) -> bool
         requires word { pass.word ≡ N.words (number_of channel.now) }
         requires replies { RepliesHistory N.namespaces pass.log channel.now (string_bytes text) }
-        ensures { TouchesOwn self.now.standing.number hub.old.node hub.new.node }
+        ensures { ToOwn (Says (string_bytes text)) self.now.standing.number hub.old.node
+            hub.new.node }
     {
         match self.standing.number() {
             Some(number) => hub.say_history(words, number, channel, text, pass) == Queued::Kept,
@@ -271,25 +284,28 @@ impl<N: Naming> AttachedClient<N> {
 
     // The hub owes its session no answer to a ping.
     fn pong(&self, hub: &mut NodeHub<N>)
-        ensures { TouchesOwn self.now.standing.number hub.old.node hub.new.node }
+        ensures { ToOwn Pongs self.now.standing.number hub.old.node hub.new.node }
     {
-        if let Some(number) = self.standing.number() {
-            hub.pong(number);
-        }
+        let Some(number) = self.standing.number() else {
+            return;
+        };
+        hub.pong(number);
     }
 
     // Its session is closed with this code.
     fn close(&self, hub: &mut NodeHub<N>, code: u16)
-        ensures { TouchesOwn self.now.standing.number hub.old.node hub.new.node }
+        ensures { ToOwn (Closes code) self.now.standing.number hub.old.node hub.new.node }
     {
-        if let Some(number) = self.standing.number() {
-            hub.close(number, code);
-        }
+        let Some(number) = self.standing.number() else {
+            return;
+        };
+        hub.close(number, code);
     }
 
     // Checks a subscription of its session against where the channel's stream stands.
     fn check(&self, hub: &mut NodeHub<N>, channel: &str, top: Option<Position>) -> Checked
-        ensures { TouchesOwn self.now.standing.number hub.old.node hub.new.node }
+        ensures { ToOwn (Checks channel.now top) self.now.standing.number hub.old.node
+            hub.new.node }
     {
         match self.standing.number() {
             Some(number) => hub.check(number, channel, top),
@@ -311,7 +327,7 @@ impl<N: Naming> AttachedClient<N> {
 
     // Its session goes. From then on it has none, and what it had is over.
     fn detach(&mut self, hub: &mut NodeHub<N>)
-        ensures own { TouchesOwn self.old.standing.number hub.old.node hub.new.node }
+        ensures own { ToOwn Goes self.old.standing.number hub.old.node hub.new.node }
         ensures none { self.new.standing.number ≡ None }
     {
         if let Some(number) = self.standing.number() {
@@ -340,9 +356,22 @@ pub(crate) struct LockedHub<'a, N: Naming> {
     hub: MutexGuard<'a, NodeHub<N>>,
 }
 
+impl<'a, N: Naming> Model for LockedHub<'a, N> {
+    ghost use Rattle.std.specs.Sync.Mutex.{mutex_guard_value};
+    ghost use Rattle.cf_node_hub.specs.Told.{Knowing};
+
+    ghost Value = { Knowing };
+
+    ghost view = { λ l. mutex_guard_value l.hub };
+}
+
 impl<'a, N: Naming> LockedHub<'a, N> {
+    ghost use Rattle.std.specs.Sync.Mutex.{mutex_guard_value};
+
     /// The hub, as it was locked.
-    pub(crate) fn new(hub: MutexGuard<'a, NodeHub<N>>) -> LockedHub<'a, N> {
+    pub(crate) fn new(hub: MutexGuard<'a, NodeHub<N>>) -> LockedHub<'a, N>
+        ensures { result ≡ mutex_guard_value hub.entry }
+    {
         LockedHub { hub }
     }
 
@@ -353,7 +382,12 @@ impl<'a, N: Naming> LockedHub<'a, N> {
         alloc: Global,
         user: String,
         now: u64,
-    ) -> Result<String, ErrorCode> {
+    ) -> Result<String, ErrorCode>
+        ensures ok { OnOk result (OpensOwn client.new.standing.number (string_bytes user) now
+            self.old.node self.new.node) }
+        ensures err { OnErr result (SparesOthers client.new.standing.number self.old.node
+            self.new.node) }
+    {
         client.attach(&mut self.hub, alloc, user, now)
     }
 
@@ -365,7 +399,11 @@ impl<'a, N: Naming> LockedHub<'a, N> {
         channel: String,
         id: u32,
         since: Option<Position>,
-    ) -> Result<(), ErrorCode> {
+    ) -> Result<(), ErrorCode>
+        ensures ok { OnOk result (BeginsOwn client.old.standing.number (string_bytes channel) id
+            since self.old.node self.new.node) }
+        ensures err { OnErr result (SparesOthers None self.old.node self.new.node) }
+    {
         client.begin(&mut self.hub, words, channel, id, since)
     }
 
@@ -379,17 +417,28 @@ impl<'a, N: Naming> LockedHub<'a, N> {
     )
         requires word { pass.word ≡ N.words (number_of begun.channel) }
         requires read { Answers N.namespaces begun pass.log recovery }
+        ensures asked { IsAskedFrom begun.since (sub_at self.old.node begun.session begun.channel) →
+            One begun.session
+            (reads (reading recovery.publications.items) begun.channel (reading_of recovery))
+            self.old.node self.new.node }
+        ensures others { OthersStay begun.session self.old.node self.new.node }
     {
         self.hub.read_done(words, begun, recovery, pass);
     }
 
     /// A subscription of the client is finished. Whether it stands then.
-    pub(crate) fn finish(&mut self, client: &AttachedClient<N>, channel: &str) -> bool {
+    pub(crate) fn finish(&mut self, client: &AttachedClient<N>, channel: &str) -> bool
+        ensures { ToOwn (Finishes channel.now) client.now.standing.number self.old.node
+            self.new.node }
+    {
         client.finish(&mut self.hub, channel)
     }
 
     /// The client leaves a channel.
-    pub(crate) fn leave(&mut self, client: &AttachedClient<N>, channel: &str) {
+    pub(crate) fn leave(&mut self, client: &AttachedClient<N>, channel: &str)
+        ensures { ToOwn (Leaves channel.now) client.now.standing.number self.old.node
+            self.new.node }
+    {
         client.leave(&mut self.hub, channel);
     }
 
@@ -397,6 +446,8 @@ impl<'a, N: Naming> LockedHub<'a, N> {
     /// gone.
     pub(crate) fn say(&mut self, client: &AttachedClient<N>, text: String) -> bool
         requires { IsReply (string_bytes text) }
+        ensures { ToOwn (Says (string_bytes text)) client.now.standing.number self.old.node
+            self.new.node }
     {
         client.say(&mut self.hub, text)
     }
@@ -412,17 +463,23 @@ impl<'a, N: Naming> LockedHub<'a, N> {
     ) -> bool
         requires word { pass.word ≡ N.words (number_of channel.now) }
         requires replies { RepliesHistory N.namespaces pass.log channel.now (string_bytes text) }
+        ensures { ToOwn (Says (string_bytes text)) client.now.standing.number self.old.node
+            self.new.node }
     {
         client.say_history(&mut self.hub, words, channel, text, pass)
     }
 
     /// The hub owes the client's session no answer to a ping.
-    pub(crate) fn pong(&mut self, client: &AttachedClient<N>) {
+    pub(crate) fn pong(&mut self, client: &AttachedClient<N>)
+        ensures { ToOwn Pongs client.now.standing.number self.old.node self.new.node }
+    {
         client.pong(&mut self.hub);
     }
 
     /// The client's session is closed with this code.
-    pub(crate) fn close(&mut self, client: &AttachedClient<N>, code: u16) {
+    pub(crate) fn close(&mut self, client: &AttachedClient<N>, code: u16)
+        ensures { ToOwn (Closes code) client.now.standing.number self.old.node self.new.node }
+    {
         client.close(&mut self.hub, code);
     }
 
@@ -432,26 +489,34 @@ impl<'a, N: Naming> LockedHub<'a, N> {
         client: &AttachedClient<N>,
         channel: &str,
         top: Option<Position>,
-    ) -> Checked {
+    ) -> Checked
+        ensures { ToOwn (Checks channel.now top) client.now.standing.number self.old.node
+            self.new.node }
+    {
         client.check(&mut self.hub, channel, top)
     }
 
     /// Takes what waits for the client, and puts it behind what was taken for it before. Whether more may wait.
     pub(crate) fn take(&mut self, client: &AttachedClient<N>, outbox: &mut Outbox) -> bool
-        ensures { TakesOwn client.now.standing.number outbox.old outbox.new }
+        ensures own { TakesOwn client.now.standing.number outbox.old outbox.new }
+        ensures moves { MovesOwn client.now.standing.number self.old.node self.new.node
+            outbox.old.outs.items outbox.new.outs.items }
     {
         client.take(&mut self.hub, outbox)
     }
 
     /// The client's session goes. From then on it has none, and what it had is over.
     pub(crate) fn detach(&mut self, client: &mut AttachedClient<N>)
-        ensures { client.new.standing.number ≡ None }
+        ensures own { ToOwn Goes client.old.standing.number self.old.node self.new.node }
+        ensures none { client.new.standing.number ≡ None }
     {
         client.detach(&mut self.hub);
     }
 
     /// Looks whether the client's session is over.
-    pub(crate) fn look(&self, client: &mut AttachedClient<N>) {
+    pub(crate) fn look(&self, client: &mut AttachedClient<N>)
+        ensures { client.new.standing ≡ looked self.now.node client.old.standing }
+    {
         client.look(&self.hub);
     }
 
@@ -461,12 +526,17 @@ impl<'a, N: Naming> LockedHub<'a, N> {
     }
 
     /// A moment comes to all sessions, in seconds.
-    pub(crate) fn tick(&mut self, now: u64) {
+    pub(crate) fn tick(&mut self, now: u64)
+        ensures { Ticks now self.old.node self.new.node }
+    {
         self.hub.tick(now);
     }
 
     /// Gives some of those sessions their turns for which something waits, as `take_batch` of cf_dispatch does.
-    pub(crate) fn give_turns<O: Outlets<Of = N>>(&mut self, outlets: &mut O) {
+    pub(crate) fn give_turns<O: Outlets<Of = N>>(&mut self, outlets: &mut O)
+        ensures { TakesBatch O.gets most_at_once self.old.node self.new.node outlets.old
+            outlets.new }
+    {
         take_batch(&mut self.hub, outlets);
     }
 }

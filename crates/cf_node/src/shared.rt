@@ -1,5 +1,5 @@
 //! What a node's two workers share.
-ghost use Rattle.std.specs.Prelude.{◌≤◌, ◌+◌, ◌↔◌, IsTrue};
+ghost use Rattle.std.specs.Prelude.{◌≡◌, ◌≤◌, ◌+◌, ◌↔◌, IsTrue};
 
 use crate::attached_client::LockedHub;
 use cf_hub::Delivered;
@@ -7,6 +7,7 @@ use cf_node_hub::NodeHub;
 use cf_shard::{Delivery, Naming, Passes, ShardWords};
 use mio::Waker;
 use std::alloc::Global;
+use std::marker::Model;
 use std::sync::atomic::{AtomicU64, Ordering};
 use std::sync::{Mutex, MutexGuard, Wait};
 use std::thread;
@@ -40,13 +41,30 @@ pub(crate) struct HubToFill<'a, N: Naming> {
     hub: MutexGuard<'a, NodeHub<N>>,
 }
 
+impl<'a, N: Naming> Model for HubToFill<'a, N> {
+    ghost use Rattle.std.specs.Sync.Mutex.{mutex_guard_value};
+    ghost use Rattle.cf_node_hub.specs.Told.{Knowing};
+
+    ghost Value = { Knowing };
+
+    ghost view = { λ h. mutex_guard_value h.hub };
+}
+
 impl<'a, N: Naming> HubToFill<'a, N> {
+    ghost use Rattle.cf_hub.specs.Hub.{Delivers, EachGetsTurn, tallied};
+
     /// Brings a publication to each session that follows its channel.
     pub(crate) fn deliver<W: ShardWords<N>>(
         &mut self,
         words: &W,
         delivery: Delivery<N>,
-    ) -> Delivered {
+    ) -> Delivered
+        ensures each { Delivers delivery.channel delivery.epoch delivery.publication self.old.node
+            self.new.node }
+        ensures counts { result ≡ tallied delivery.channel delivery.epoch delivery.publication
+            self.old.node self.new.node }
+        ensures turns { EachGetsTurn delivery.channel self.old.node self.new.node }
+    {
         self.hub.deliver(words, delivery)
     }
 }
