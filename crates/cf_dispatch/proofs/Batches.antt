@@ -5,7 +5,7 @@ use Rattle.std.proofs.Common.{ap, subst, ◌∙◌, arith}
 use Rattle.std.proofs.lemmas.List.Sums.{sum_by-cons}
 use Rattle.cf_hub.specs.Hub.{Node, attached_at, is_waiting, waits_in}
 use Rattle.cf_hub.specs.Turns.{first_turn, turns_left}
-use Rattle.cf_dispatch.specs.Outlet.{Boxed}
+use Rattle.cf_queue.specs.declared.queue.Out.{Out}
 use Rattle.cf_dispatch.specs.Batch.{Names, TakesAt, TakesFor, times}
 
 cons_times : (j k : ℕ) (ks : List ℕ) → times j (k ∷ ks) ≡ cond (k == j) 1 0 + times j ks
@@ -28,15 +28,13 @@ left_times p (i ∷ ks) k j e = by_value (p i) (left_times p ks k j) e
         let left = rest f in
         omega (arith, left, cons_times j i ks)
 
-module _ {S : Type 0} (frees : S → ℕ → Bool → Type 0) (lends : S → ℕ → Boxed → S → Type 0)
-    (gets : S → ℕ → Boxed → Bool → S → Type 0) where
-  pub begins : (h : Node) (p : S) → TakesFor frees lends gets 0 h h p p
+module _ {S : Type 0} (gets : S → ℕ → List Out → List Out → S → Type 0) where
+  pub begins : (h : Node) (p : S) → TakesFor gets 0 h h p p
   begins h p = record { sessions = []; counted = refl; turns = (refl, refl); once = λ k. omega arith }
 
   -- one more has its turn
-  pub goes_on : (n k : ℕ) (old m named new : Node) (p s q : S) → TakesFor frees lends gets n old m p s
-      → Names (Some k) m named → TakesAt frees lends gets k named new s q
-      → TakesFor frees lends gets (n + 1) old new p q
+  pub goes_on : (n k : ℕ) (old m named new : Node) (p s q : S) → TakesFor gets n old m p s
+      → Names (Some k) m named → TakesAt gets k named new s q → TakesFor gets (n + 1) old new p q
   goes_on n k old m named new p s q t named_k at = record {
     sessions = k ∷ t.sessions;
     counted = omega (arith, t.counted);

@@ -1,12 +1,9 @@
 -- What is taken from a node's hub for the sessions that it names, one after another. (This project's own profile.)
-use Rattle.std.specs.Prelude.{◌≡◌, ◌↔◌, ◌≤◌, ◌<◌, ◌==◌, ◌⊎◌, ℕ, ◌+◌, Bool, IsFalse, IsTrue, Some, None, Option, List}
-use Rattle.std.specs.Prelude.{[], ◌∷◌}
-use Rattle.std.specs.Prelude.{length}
+use Rattle.std.specs.Prelude.{◌≡◌, ◌≤◌, ◌<◌, ◌==◌, ◌⊎◌, ℕ, ◌+◌, Some, None, Option, List, [], ◌∷◌, length}
 use Rattle.std.specs.List.{count_by}
 use Rattle.cf_hub.specs.Hub.{IsNextTurn, Node, attached_at}
-use Rattle.cf_dispatch.specs.Outlet.{Boxed, IsAtLimit, IsFull, KeepsRoom, Takes, leaves_more, may_take, waits_at}
-use Rattle.cf_dispatch.specs.declared.outlet.Taken.{Taken}
-use Rattle.cf_dispatch.specs.declared.outlet.Taken.TheVariants.{All, Blocked, Limit, Memory}
+use Rattle.cf_queue.specs.declared.queue.Out.{Out}
+use Rattle.cf_dispatch.specs.Outlet.{Takes}
 
 -- for so many sessions at most
 abbrev pub most_at_once : ℕ
@@ -21,27 +18,14 @@ pub record Names (k : Option ℕ) (old new : Node) : Type 0 where
   pub turn : IsNextTurn (attached_at old) old.turns new.turns k
   pub same : new ≡ record old { turns = new.turns }
 
-module _ {S : Type 0} (frees : S → ℕ → Bool → Type 0) (lends : S → ℕ → Boxed → S → Type 0)
-    (gets : S → ℕ → Boxed → Bool → S → Type 0) where
-  -- session k has its turn: what waits for its client is taken, unless its wire isn't free or what was lent for it is
-  -- full or another session's, and it gets that, and hears whether more may wait
+module _ {S : Type 0} (gets : S → ℕ → List Out → List Out → S → Type 0) where
+  -- session k has its turn: of what waits for its client some is taken, the first first, and stands behind what was
+  -- taken for it before
   pub record TakesAt (k : ℕ) (old new : Node) (p q : S) : Type 0 where
-    pub is_free : Bool
-    pub why : Taken
-    pub had : Boxed
-    pub has : Boxed
-    pub lent : S
-    pub freeing : frees p k is_free
-    pub lending : lends p k had lent
-    pub taking : Takes k old new had.outs.items has.outs.items
-    pub nothing : IsFalse (may_take k is_free had) → (new ≡ old) × (has ≡ had)
-    pub own : IsTrue (may_take k is_free had) → has.session ≡ Some k
-    pub blocked : (why ≡ Blocked) ↔ IsFalse (may_take k is_free had)
-    pub all : why ≡ All → waits_at new k ≡ []
-    pub limit : why ≡ Limit → IsAtLimit had.outs.items has.outs.items
-    pub memory : why ≡ Memory → IsFull has.outs
-    pub room : KeepsRoom had.outs has.outs
-    pub getting : gets lent k has (leaves_more why) q
+    pub had : List Out
+    pub has : List Out
+    pub taking : Takes k old new had has
+    pub getting : gets p k had has q
 
   -- these had their turns as the hub named them, the last first
   abbrev pub HadTurns : List ℕ → Node → Node → S → S → Type 0

@@ -1,62 +1,39 @@
 //! What is taken from the hub for the sessions that it names, under one lock.
-ghost use Rattle.cf_dispatch.specs.Batch.{TakesAt, TakesBatch, most_at_once};
+ghost use Rattle.cf_dispatch.specs.Batch.{TakesBatch, most_at_once};
 
-use crate::outbox::Outbox;
-use crate::outlet::take_for;
 use cf_node_hub::NodeHub;
 use cf_shard::Naming;
 
 /// For so many sessions what waits is taken under one lock of the hub.
 pub const SESSIONS_AT_ONCE: usize = 64;
 
-/// Where the clients of a hub's sessions sit. What each call does it states itself.
+/// Where the clients of a hub's sessions sit. What was taken for one of them stays there: it is never lent.
 pub trait Outlets {
-    ghost use Rattle.std.specs.Prelude.{ℕ, Bool};
-    ghost use Rattle.cf_dispatch.specs.Outlet.{Boxed};
+    /// Which namespaces are set up, and which word counts which shard's log.
+    type Of: Naming;
 
-    /// The wire of a session's client takes more at once, or not.
-    ghost frees: { Self → ℕ → Bool → Type 0 };
+    ghost use Rattle.std.specs.Prelude.{ℕ, List};
+    ghost use Rattle.cf_queue.specs.declared.queue.Out.{Out};
+    ghost use Rattle.cf_dispatch.specs.Batch.{TakesAt};
 
-    /// What was taken for a session's client, and isn't sent yet, is lent.
-    ghost lends: { Self → ℕ → Boxed → Self → Type 0 };
+    /// What was taken for a session's client and isn't sent yet was this, and with what is taken now it is that.
+    ghost gets: { Self → ℕ → List Out → List Out → Self → Type 0 };
 
-    /// A session's client gets what was taken for it by now, and more may wait for it, or not.
-    ghost gets: { Self → ℕ → Boxed → Bool → Self → Type 0 };
-
-    /// Whether the wire of a session's client takes more at once.
-    fn is_free(&self, session: u32) -> bool
-        ensures { frees self.now session result };
-
-    /// Lends what was taken for a session's client and isn't sent yet.
-    fn lend(&mut self, session: u32) -> Outbox
-        ensures { lends self.old session result self.new };
-
-    /// Gives a session's client what was taken for it by now, and notes whether more may wait for it.
-    fn give(&mut self, session: u32, outbox: Outbox, more: bool)
-        ensures { gets self.old session outbox more self.new };
+    /// A session has its turn: of what waits for its client some is taken, the first first, behind what was taken for it before,
+    /// or nothing.
+    fn take(&mut self, hub: &mut NodeHub<Self::Of>, session: u32)
+        ensures { TakesAt gets session hub.old.node hub.new.node self.old self.new };
 }
 
-/// Takes what waits for up to 64 sessions, in the order in which the hub names them: the first first, behind what was taken
-/// before, and nothing for a client whose wire isn't free, or for whom another session's was lent.
-pub fn take_batch<N: Naming, O: Outlets>(hub: &mut NodeHub<N>, outlets: &mut O)
-    ensures { TakesBatch O.frees O.lends O.gets most_at_once hub.old.node hub.new.node outlets.old
-        outlets.new }
+/// Gives their turns to up to 64 sessions, in the order in which the hub names them, and to each as often at most as it stands in
+/// the hub's list.
+pub fn take_batch<O: Outlets>(hub: &mut NodeHub<O::Of>, outlets: &mut O)
+    ensures { TakesBatch O.gets most_at_once hub.old.node hub.new.node outlets.old outlets.new }
 {
     for _named in 0..SESSIONS_AT_ONCE {
         let Some(session) = hub.next_with_output() else {
             return;
         };
-        take_at(hub, outlets, session);
+        outlets.take(hub, session);
     }
-}
-
-// Takes what waits for one session, where its client's wire is free.
-fn take_at<N: Naming, O: Outlets>(hub: &mut NodeHub<N>, outlets: &mut O, session: u32)
-    ensures { TakesAt O.frees O.lends O.gets session hub.old.node hub.new.node outlets.old
-        outlets.new }
-{
-    let is_free = outlets.is_free(session);
-    let mut outbox = outlets.lend(session);
-    let why = take_for(hub, session, is_free, &mut outbox);
-    outlets.give(session, outbox, why.leaves_more());
 }

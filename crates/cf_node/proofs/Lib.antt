@@ -1,5 +1,6 @@
 pub mod Carrying
+pub mod Delivering
 pub mod Growing
 pub mod Handing
 pub mod Owning
-pub mod Delivering
+pub mod Waiting

@@ -1,21 +1,30 @@
 //! What the node keeps of a client, and what is done in the hub for it, while the hub is lent.
-ghost use Rattle.std.specs.Prelude.{◌≡◌, ◌↔◌, ◌≤◌, IfOk, IfSome, IsTrue, None, OnOk, Some, is_some, string_bytes, true};
+ghost use Rattle.std.specs.Prelude.{◌≡◌, ◌↔◌, ◌≤◌, IfOk, IfSome, IsTrue, None, OnErr, OnOk, Some, is_some, string_bytes, true};
+ghost use Rattle.cf_model.specs.Sessions.{reads};
+ghost use Rattle.cf_hub.specs.Hub.{One, OthersStay, Ticks, sub_at};
+ghost use Rattle.cf_hub.specs.Subscriptions.{reading_of};
+ghost use Rattle.cf_hub.specs.Wordings.{reading};
+ghost use Rattle.cf_dispatch.specs.Batch.{TakesBatch, most_at_once};
 ghost use Rattle.cf_dispatch.specs.Standing.{looked};
 ghost use Rattle.cf_node.specs.Desk.{TakesOwn};
-ghost use Rattle.cf_node.specs.Own.{BeginsOwn, MovesOwn, OpensOwn, TouchesOwn};
+ghost use Rattle.cf_node.specs.Own.{BeginsOwn, Checks, Closes, Finishes, Goes, Leaves, MovesOwn, OpensOwn, Pongs, Says, SparesOthers, ToOwn};
+ghost use Rattle.cf_node_hub.specs.Asking.{Answers, IsAskedFrom};
 ghost use Rattle.cf_node_hub.specs.Histories.{RepliesHistory};
 ghost use Rattle.cf_node_hub.specs.Told.{IsReply};
 ghost use Rattle.cf_shard.specs.Shards.{number_of};
 
-use cf_dispatch::{Outbox, PongWatch, Standing, take_for};
+use cf_dispatch::{Outbox, Outlets, PongWatch, Standing, take_batch, take_for};
 use cf_hub::{Checked, Queued};
 use cf_node_hub::{Begun, NodeHub};
 use cf_order::Pass;
 use cf_protocol::{ErrorCode, Position};
 use cf_session::hub_error;
 use cf_shard::{Naming, ShardWords};
+use cf_stream::Recovery;
 use std::alloc::Global;
 use std::collections::VecDeque;
+use std::marker::Model;
+use std::sync::MutexGuard;
 
 /// A channel in which a client is present.
 #[derive(Drop)]
@@ -27,7 +36,7 @@ pub(crate) struct Present {
 }
 
 /// What the node keeps of a client. Which session of the hub is its own is known here alone: what is done there for it is done by
-/// the calls below, each of which says what it changes in the hub that it is lent.
+/// the private calls below, each of which says what it changes in the hub that it is lent.
 #[derive(Drop)]
 pub(crate) struct AttachedClient<N: Naming> {
     // The number of its session in the hub, once it is attached, and whether it is over.
@@ -82,13 +91,6 @@ impl<N: Naming> AttachedClient<N> {
         self.standing.number() == Some(session)
     }
 
-    /// Whether what was taken from the hub is its session's; where it has none, whether it is of none.
-    pub(crate) fn owns(&self, outbox: &Outbox) -> bool
-        ensures { IsTrue result ↔ (outbox.now.session ≡ self.now.standing.number) }
-    {
-        outbox.session() == self.standing.number()
-    }
-
     /// Whether its session is over, as far as was looked or told.
     pub(crate) fn is_over(&self) -> bool
         ensures { result ≡ self.now.standing.is_over }
@@ -96,8 +98,8 @@ impl<N: Naming> AttachedClient<N> {
         self.standing.is_over()
     }
 
-    /// Looks in the hub whether its session is over.
-    pub(crate) fn look(&mut self, hub: &NodeHub<N>)
+    // Looks in the hub whether its session is over.
+    fn look(&mut self, hub: &NodeHub<N>)
         ensures { self.new.standing ≡ looked hub.now.node self.old.standing }
     {
         self.standing.look(hub);
@@ -134,16 +136,18 @@ impl<N: Naming> AttachedClient<N> {
         });
     }
 
-    /// A session for a user. The answer is the client's id.
-    pub(crate) fn attach(
+    // A session for a user. The answer is the client's id.
+    fn attach(
         &mut self,
         hub: &mut NodeHub<N>,
         alloc: Global,
         user: String,
         now: u64,
     ) -> Result<String, ErrorCode>
-        ensures { OnOk result (OpensOwn self.new.standing.number (string_bytes user) now
+        ensures ok { OnOk result (OpensOwn self.new.standing.number (string_bytes user) now
             hub.old.node hub.new.node) }
+        ensures err { OnErr result (SparesOthers self.new.standing.number hub.old.node
+            hub.new.node) }
     {
         match user.clone() {
             Ok(kept) => self.user = kept,
@@ -165,8 +169,8 @@ impl<N: Naming> AttachedClient<N> {
         }
     }
 
-    /// A subscription to a channel begins, for the command of this id; none has the id 0.
-    pub(crate) fn begin<W: ShardWords<N>>(
+    // A subscription to a channel begins, for the command of this id; none has the id 0.
+    fn begin<W: ShardWords<N>>(
         &mut self,
         hub: &mut NodeHub<N>,
         words: &W,
@@ -174,8 +178,9 @@ impl<N: Naming> AttachedClient<N> {
         id: u32,
         since: Option<Position>,
     ) -> Result<(), ErrorCode>
-        ensures { OnOk result (BeginsOwn self.old.standing.number (string_bytes channel) id since
+        ensures ok { OnOk result (BeginsOwn self.old.standing.number (string_bytes channel) id since
             hub.old.node hub.new.node) }
+        ensures err { OnErr result (SparesOthers None hub.old.node hub.new.node) }
     {
         let Some(number) = self.standing.number() else {
             return Err(ErrorCode::Internal);
@@ -222,9 +227,10 @@ impl<N: Naming> AttachedClient<N> {
         }
     }
 
-    /// The subscription is finished. Whether it stands then.
-    pub(crate) fn finish(&self, hub: &mut NodeHub<N>, channel: &str) -> bool
-        ensures { TouchesOwn self.now.standing.number hub.old.node hub.new.node }
+    // The subscription is finished. Whether it stands then.
+    fn finish(&self, hub: &mut NodeHub<N>, channel: &str) -> bool
+        ensures { ToOwn (Finishes channel.now) self.now.standing.number hub.old.node
+            hub.new.node }
     {
         let Some(number) = self.standing.number() else {
             return false;
@@ -233,20 +239,22 @@ impl<N: Naming> AttachedClient<N> {
         hub.is_subscribed(number, channel)
     }
 
-    /// The client leaves a channel.
-    pub(crate) fn leave(&self, hub: &mut NodeHub<N>, channel: &str)
-        ensures { TouchesOwn self.now.standing.number hub.old.node hub.new.node }
+    // The client leaves a channel.
+    fn leave(&self, hub: &mut NodeHub<N>, channel: &str)
+        ensures { ToOwn (Leaves channel.now) self.now.standing.number hub.old.node hub.new.node }
     {
-        if let Some(number) = self.standing.number() {
-            hub.leave(number, channel);
-        }
+        let Some(number) = self.standing.number() else {
+            return;
+        };
+        hub.leave(number, channel);
     }
 
-    /// A reply that brings no publications waits for the client, or its session is closed. `false` where that is closed then, or
-    /// gone.
-    pub(crate) fn say(&self, hub: &mut NodeHub<N>, text: String) -> bool
+    // A reply that brings no publications waits for the client, or its session is closed. `false` where that is closed then, or
+    // gone.
+    fn say(&self, hub: &mut NodeHub<N>, text: String) -> bool
         requires { IsReply (string_bytes text) }
-        ensures { TouchesOwn self.now.standing.number hub.old.node hub.new.node }
+        ensures { ToOwn (Says (string_bytes text)) self.now.standing.number hub.old.node
+            hub.new.node }
     {
         match self.standing.number() {
             Some(number) => hub.say(number, text) == Queued::Kept,
@@ -254,8 +262,8 @@ impl<N: Naming> AttachedClient<N> {
         }
     }
 
-    /// The same of the reply to a history of a channel, with the pass by which that was answered.
-    pub(crate) fn say_history<W: ShardWords<N>>(
+    // The same of the reply to a history of a channel, with the pass by which that was answered.
+    fn say_history<W: ShardWords<N>>(
         &self,
         hub: &mut NodeHub<N>,
         words: &W,
@@ -265,7 +273,8 @@ impl<N: Naming> AttachedClient<N> {
     ) -> bool
         requires word { pass.word ≡ N.words (number_of channel.now) }
         requires replies { RepliesHistory N.namespaces pass.log channel.now (string_bytes text) }
-        ensures { TouchesOwn self.now.standing.number hub.old.node hub.new.node }
+        ensures { ToOwn (Says (string_bytes text)) self.now.standing.number hub.old.node
+            hub.new.node }
     {
         match self.standing.number() {
             Some(number) => hub.say_history(words, number, channel, text, pass) == Queued::Kept,
@@ -273,32 +282,30 @@ impl<N: Naming> AttachedClient<N> {
         }
     }
 
-    /// The hub owes its session no answer to a ping.
-    pub(crate) fn pong(&self, hub: &mut NodeHub<N>)
-        ensures { TouchesOwn self.now.standing.number hub.old.node hub.new.node }
+    // The hub owes its session no answer to a ping.
+    fn pong(&self, hub: &mut NodeHub<N>)
+        ensures { ToOwn Pongs self.now.standing.number hub.old.node hub.new.node }
     {
-        if let Some(number) = self.standing.number() {
-            hub.pong(number);
-        }
+        let Some(number) = self.standing.number() else {
+            return;
+        };
+        hub.pong(number);
     }
 
-    /// Its session is closed with this code.
-    pub(crate) fn close(&self, hub: &mut NodeHub<N>, code: u16)
-        ensures { TouchesOwn self.now.standing.number hub.old.node hub.new.node }
+    // Its session is closed with this code.
+    fn close(&self, hub: &mut NodeHub<N>, code: u16)
+        ensures { ToOwn (Closes code) self.now.standing.number hub.old.node hub.new.node }
     {
-        if let Some(number) = self.standing.number() {
-            hub.close(number, code);
-        }
+        let Some(number) = self.standing.number() else {
+            return;
+        };
+        hub.close(number, code);
     }
 
-    /// Checks a subscription of its session against where the channel's stream stands.
-    pub(crate) fn check(
-        &self,
-        hub: &mut NodeHub<N>,
-        channel: &str,
-        top: Option<Position>,
-    ) -> Checked
-        ensures { TouchesOwn self.now.standing.number hub.old.node hub.new.node }
+    // Checks a subscription of its session against where the channel's stream stands.
+    fn check(&self, hub: &mut NodeHub<N>, channel: &str, top: Option<Position>) -> Checked
+        ensures { ToOwn (Checks channel.now top) self.now.standing.number hub.old.node
+            hub.new.node }
     {
         match self.standing.number() {
             Some(number) => hub.check(number, channel, top),
@@ -306,8 +313,8 @@ impl<N: Naming> AttachedClient<N> {
         }
     }
 
-    /// Takes what waits for its session, and puts it behind what was taken for it before. Whether more may wait.
-    pub(crate) fn take(&self, hub: &mut NodeHub<N>, outbox: &mut Outbox) -> bool
+    // Takes what waits for its session, and puts it behind what was taken for it before. Whether more may wait.
+    fn take(&self, hub: &mut NodeHub<N>, outbox: &mut Outbox) -> bool
         ensures own { TakesOwn self.now.standing.number outbox.old outbox.new }
         ensures moves { MovesOwn self.now.standing.number hub.old.node hub.new.node
             outbox.old.outs.items outbox.new.outs.items }
@@ -318,9 +325,9 @@ impl<N: Naming> AttachedClient<N> {
         }
     }
 
-    /// Its session goes. From then on it has none, and what it had is over.
-    pub(crate) fn detach(&mut self, hub: &mut NodeHub<N>)
-        ensures own { TouchesOwn self.old.standing.number hub.old.node hub.new.node }
+    // Its session goes. From then on it has none, and what it had is over.
+    fn detach(&mut self, hub: &mut NodeHub<N>)
+        ensures own { ToOwn Goes self.old.standing.number hub.old.node hub.new.node }
         ensures none { self.new.standing.number ≡ None }
     {
         if let Some(number) = self.standing.number() {
@@ -330,8 +337,8 @@ impl<N: Naming> AttachedClient<N> {
         self.standing.end();
     }
 
-    /// Forgets the mark of each subscription that has ended meanwhile.
-    pub(crate) fn forgets_ended(&mut self, hub: &NodeHub<N>) {
+    // Forgets the mark of each subscription that has ended meanwhile.
+    fn forgets_ended(&mut self, hub: &NodeHub<N>) {
         let Some(number) = self.standing.number() else {
             return;
         };
@@ -340,5 +347,196 @@ impl<N: Naming> AttachedClient<N> {
                 present.mark = None;
             }
         }
+    }
+}
+
+/// A node's hub, under its lock. What can be done there is done by these calls: for a client's own session, or for all of them.
+#[derive(Drop)]
+pub(crate) struct LockedHub<'a, N: Naming> {
+    hub: MutexGuard<'a, NodeHub<N>>,
+}
+
+impl<'a, N: Naming> Model for LockedHub<'a, N> {
+    ghost use Rattle.std.specs.Sync.Mutex.{mutex_guard_value};
+    ghost use Rattle.cf_node_hub.specs.Told.{Knowing};
+
+    ghost Value = { Knowing };
+
+    ghost view = { λ l. mutex_guard_value l.hub };
+}
+
+impl<'a, N: Naming> LockedHub<'a, N> {
+    ghost use Rattle.std.specs.Sync.Mutex.{mutex_guard_value};
+
+    /// The hub, as it was locked.
+    pub(crate) fn new(hub: MutexGuard<'a, NodeHub<N>>) -> LockedHub<'a, N>
+        ensures { result ≡ mutex_guard_value hub.entry }
+    {
+        LockedHub { hub }
+    }
+
+    /// A session for a user, which is the client's own from then on. The answer is the client's id.
+    pub(crate) fn attach(
+        &mut self,
+        client: &mut AttachedClient<N>,
+        alloc: Global,
+        user: String,
+        now: u64,
+    ) -> Result<String, ErrorCode>
+        ensures ok { OnOk result (OpensOwn client.new.standing.number (string_bytes user) now
+            self.old.node self.new.node) }
+        ensures err { OnErr result (SparesOthers client.new.standing.number self.old.node
+            self.new.node) }
+    {
+        client.attach(&mut self.hub, alloc, user, now)
+    }
+
+    /// A subscription of the client to a channel begins, for the command of this id; none has the id 0.
+    pub(crate) fn begin<W: ShardWords<N>>(
+        &mut self,
+        client: &mut AttachedClient<N>,
+        words: &W,
+        channel: String,
+        id: u32,
+        since: Option<Position>,
+    ) -> Result<(), ErrorCode>
+        ensures ok { OnOk result (BeginsOwn client.old.standing.number (string_bytes channel) id
+            since self.old.node self.new.node) }
+        ensures err { OnErr result (SparesOthers None self.old.node self.new.node) }
+    {
+        client.begin(&mut self.hub, words, channel, id, since)
+    }
+
+    /// What was read for what began is taken, with the pass by which it was.
+    pub(crate) fn read_done<W: ShardWords<N>>(
+        &mut self,
+        words: &W,
+        begun: Begun<N>,
+        recovery: Recovery,
+        pass: Pass,
+    )
+        requires word { pass.word ≡ N.words (number_of begun.channel) }
+        requires read { Answers N.namespaces begun pass.log recovery }
+        ensures asked { IsAskedFrom begun.since (sub_at self.old.node begun.session begun.channel) →
+            One begun.session
+            (reads (reading recovery.publications.items) begun.channel (reading_of recovery))
+            self.old.node self.new.node }
+        ensures others { OthersStay begun.session self.old.node self.new.node }
+    {
+        self.hub.read_done(words, begun, recovery, pass);
+    }
+
+    /// A subscription of the client is finished. Whether it stands then.
+    pub(crate) fn finish(&mut self, client: &AttachedClient<N>, channel: &str) -> bool
+        ensures { ToOwn (Finishes channel.now) client.now.standing.number self.old.node
+            self.new.node }
+    {
+        client.finish(&mut self.hub, channel)
+    }
+
+    /// The client leaves a channel.
+    pub(crate) fn leave(&mut self, client: &AttachedClient<N>, channel: &str)
+        ensures { ToOwn (Leaves channel.now) client.now.standing.number self.old.node
+            self.new.node }
+    {
+        client.leave(&mut self.hub, channel);
+    }
+
+    /// A reply that brings no publications waits for the client, or its session is closed. `false` where that is closed then, or
+    /// gone.
+    pub(crate) fn say(&mut self, client: &AttachedClient<N>, text: String) -> bool
+        requires { IsReply (string_bytes text) }
+        ensures { ToOwn (Says (string_bytes text)) client.now.standing.number self.old.node
+            self.new.node }
+    {
+        client.say(&mut self.hub, text)
+    }
+
+    /// The same of the reply to a history of a channel, with the pass by which that was answered.
+    pub(crate) fn say_history<W: ShardWords<N>>(
+        &mut self,
+        client: &AttachedClient<N>,
+        words: &W,
+        channel: &str,
+        text: String,
+        pass: Pass,
+    ) -> bool
+        requires word { pass.word ≡ N.words (number_of channel.now) }
+        requires replies { RepliesHistory N.namespaces pass.log channel.now (string_bytes text) }
+        ensures { ToOwn (Says (string_bytes text)) client.now.standing.number self.old.node
+            self.new.node }
+    {
+        client.say_history(&mut self.hub, words, channel, text, pass)
+    }
+
+    /// The hub owes the client's session no answer to a ping.
+    pub(crate) fn pong(&mut self, client: &AttachedClient<N>)
+        ensures { ToOwn Pongs client.now.standing.number self.old.node self.new.node }
+    {
+        client.pong(&mut self.hub);
+    }
+
+    /// The client's session is closed with this code.
+    pub(crate) fn close(&mut self, client: &AttachedClient<N>, code: u16)
+        ensures { ToOwn (Closes code) client.now.standing.number self.old.node self.new.node }
+    {
+        client.close(&mut self.hub, code);
+    }
+
+    /// Checks a subscription of the client against where the channel's stream stands.
+    pub(crate) fn check(
+        &mut self,
+        client: &AttachedClient<N>,
+        channel: &str,
+        top: Option<Position>,
+    ) -> Checked
+        ensures { ToOwn (Checks channel.now top) client.now.standing.number self.old.node
+            self.new.node }
+    {
+        client.check(&mut self.hub, channel, top)
+    }
+
+    /// Takes what waits for the client, and puts it behind what was taken for it before. Whether more may wait.
+    pub(crate) fn take(&mut self, client: &AttachedClient<N>, outbox: &mut Outbox) -> bool
+        ensures own { TakesOwn client.now.standing.number outbox.old outbox.new }
+        ensures moves { MovesOwn client.now.standing.number self.old.node self.new.node
+            outbox.old.outs.items outbox.new.outs.items }
+    {
+        client.take(&mut self.hub, outbox)
+    }
+
+    /// The client's session goes. From then on it has none, and what it had is over.
+    pub(crate) fn detach(&mut self, client: &mut AttachedClient<N>)
+        ensures own { ToOwn Goes client.old.standing.number self.old.node self.new.node }
+        ensures none { client.new.standing.number ≡ None }
+    {
+        client.detach(&mut self.hub);
+    }
+
+    /// Looks whether the client's session is over.
+    pub(crate) fn look(&self, client: &mut AttachedClient<N>)
+        ensures { client.new.standing ≡ looked self.now.node client.old.standing }
+    {
+        client.look(&self.hub);
+    }
+
+    /// Forgets the mark of each subscription of the client that has ended meanwhile.
+    pub(crate) fn forgets_ended(&self, client: &mut AttachedClient<N>) {
+        client.forgets_ended(&self.hub);
+    }
+
+    /// A moment comes to all sessions, in seconds.
+    pub(crate) fn tick(&mut self, now: u64)
+        ensures { Ticks now self.old.node self.new.node }
+    {
+        self.hub.tick(now);
+    }
+
+    /// Gives some of those sessions their turns for which something waits, as `take_batch` of cf_dispatch does.
+    pub(crate) fn give_turns<O: Outlets<Of = N>>(&mut self, outlets: &mut O)
+        ensures { TakesBatch O.gets most_at_once self.old.node self.new.node outlets.old
+            outlets.new }
+    {
+        take_batch(&mut self.hub, outlets);
     }
 }

@@ -7,9 +7,10 @@ ghost use Rattle.cf_node_hub.specs.Asking.{Answers};
 ghost use Rattle.cf_node_hub.specs.Histories.{IsListedIn};
 ghost use Rattle.cf_node.specs.Answered.{StoodAt, WasPublished};
 
+use crate::attached_client::LockedHub;
 use crate::error_counts::NodeError;
 use crate::shared::Shared;
-use cf_node_hub::{Begun, NodeHub};
+use cf_node_hub::Begun;
 use cf_order::Pass;
 use cf_presence::Stats;
 use cf_protocol::Position;
@@ -18,7 +19,6 @@ use cf_shard::{Naming, Refused, ShardWords};
 use cf_stream::{History, Published, Recovery};
 use std::alloc::Global;
 use std::collections::BTreeMap;
-use std::sync::MutexGuard;
 
 /// The node's hub, and the broker with the node's own passes. Each call may wait for a lock, and
 /// leaves none taken but the hub's while it is lent.
@@ -38,7 +38,7 @@ pub(crate) trait Backend {
         ensures tables { (tables_of result).namespaces ≡ Self.Of.Naming.namespaces };
 
     /// The hub, under its lock.
-    fn hub(&self) -> MutexGuard<'_, NodeHub<Self::Of>>;
+    fn hub(&self) -> LockedHub<'_, Self::Of>;
 
     /// The words of the broker's shards.
     fn words(&self) -> &Self::Words;

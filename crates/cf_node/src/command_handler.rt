@@ -70,8 +70,9 @@ impl<'a, B: Backend> CommandExecutor for CommandHandler<'a, B> {
             return Err(ErrorCode::Internal);
         }
         let alloc = self.backend.alloc();
-        self.client
-            .attach(&mut self.backend.hub(), alloc, user, self.now)
+        self.backend
+            .hub()
+            .attach(&mut self.client, alloc, user, self.now)
     }
 
     fn begin(&mut self, channel: &str, id: u32, since: Option<Position>) -> Result<(), ErrorCode> {
@@ -82,8 +83,9 @@ impl<'a, B: Backend> CommandExecutor for CommandHandler<'a, B> {
             return Err(ErrorCode::Internal);
         };
         let words = self.backend.words();
-        self.client
-            .begin(&mut self.backend.hub(), words, channel, id, since)
+        self.backend
+            .hub()
+            .begin(&mut self.client, words, channel, id, since)
     }
 
     fn read(&mut self, channel: &str, since: Option<Position>) -> Result<(), ErrorCode> {
@@ -105,11 +107,7 @@ impl<'a, B: Backend> CommandExecutor for CommandHandler<'a, B> {
 
     // The subscription is finished, and where it stands then, its client is present.
     fn finish(&mut self, channel: String) {
-        if !self.sees_end()
-            && self
-                .client
-                .finish(&mut self.backend.hub(), channel.as_str())
-        {
+        if !self.sees_end() && self.backend.hub().finish(&self.client, channel.as_str()) {
             self.enter(channel.as_str());
             self.client.add(channel);
         }
@@ -119,7 +117,7 @@ impl<'a, B: Backend> CommandExecutor for CommandHandler<'a, B> {
         if self.sees_end() {
             return;
         }
-        self.client.leave(&mut self.backend.hub(), channel);
+        self.backend.hub().leave(&self.client, channel);
         self.backend.leave(channel, self.client.id.as_str());
         let channels = &mut self.client.channels;
         channels.retain(|one| one.channel.as_str() != channel);
@@ -195,7 +193,7 @@ impl<'a, B: Backend> CommandExecutor for CommandHandler<'a, B> {
             return;
         }
         self.pay_for(text.as_str());
-        let goes_on = self.client.say(&mut self.backend.hub(), text);
+        let goes_on = self.backend.hub().say(&self.client, text);
         if !goes_on {
             self.stop();
         }
@@ -203,14 +201,14 @@ impl<'a, B: Backend> CommandExecutor for CommandHandler<'a, B> {
 
     fn pong(&mut self) {
         self.client.pongs.pong();
-        self.client.pong(&mut self.backend.hub());
+        self.backend.hub().pong(&self.client);
     }
 
     // The session is closed. One that isn't attached has no queue: its close is sent as it is.
     fn close(&mut self, code: CloseCode) {
         let code = code.code();
         if self.client.has_session() {
-            self.client.close(&mut self.backend.hub(), code);
+            self.backend.hub().close(&self.client, code);
         } else {
             self.client.refused = Some(code);
         }
@@ -249,8 +247,9 @@ impl<'a, B: Backend> CommandHandler<'a, B> {
         self.pay_for(text.as_str());
         let words = self.backend.words();
         let goes_on = self
-            .client
-            .say_history(&mut self.backend.hub(), words, channel, text, pass);
+            .backend
+            .hub()
+            .say_history(&self.client, words, channel, text, pass);
         if !goes_on {
             self.stop();
         }
@@ -302,7 +301,7 @@ impl<'a, B: Backend> CommandHandler<'a, B> {
     pub(crate) fn take(&self, outbox: &mut Outbox) -> bool
         ensures { TakesOwn self.entry.now.client.standing.number outbox.old outbox.new }
     {
-        self.client.take(&mut self.backend.hub(), outbox)
+        self.backend.hub().take(&self.client, outbox)
     }
 
     /// Wakes who brings on what was published in a turn, where nobody was woken for it yet.
@@ -319,7 +318,7 @@ impl<'a, B: Backend> CommandHandler<'a, B> {
         if self.is_closed() {
             return true;
         }
-        self.client.look(&self.backend.hub());
+        self.backend.hub().look(&mut self.client);
         if !self.is_closed() {
             return false;
         }

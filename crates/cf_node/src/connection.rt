@@ -1,9 +1,14 @@
 //! One connection: a socket whose head is collected, and then a wire and its session.
+ghost use Rattle.std.specs.Prelude.{◌≡◌};
+
 use crate::backend::Backend;
+use crate::costs::LOOP_BUDGET;
 use crate::desk::SessionDesk;
 use crate::leaving::Leaving;
 use crate::socket::Socket;
-use cf_dispatch::is_head_over;
+use cf_dispatch::{Group, is_head_over};
+use cf_node_hub::NodeHub;
+use cf_protocol::CloseCode;
 use cf_session::{TurnEnd, Wire};
 use cf_wire::Gather;
 use std::io::ErrorKind;
@@ -40,13 +45,14 @@ pub(crate) enum HeadStage {
     Lost,
 }
 
-/// A connection that speaks: its wire, and the desk at which its session sits.
+/// A connection that speaks: its wire, and the desk at which its session sits. Nobody else has these, or one without the other:
+/// what the desk gives goes to the wire beside it.
 #[derive(Drop)]
 pub(crate) struct Open<'a, B: Backend> {
-    pub(crate) wire: Wire<Gather<Socket>>,
-    pub(crate) desk: SessionDesk<'a, B>,
-    /// Its last turn in which texts were heard spent the bounds of one.
-    pub(crate) is_spent: bool,
+    wire: Wire<Gather<Socket>>,
+    desk: SessionDesk<'a, B>,
+    // Its last turn in which texts were heard spent the bounds of one.
+    is_spent: bool,
 }
 
 impl Head {
@@ -89,8 +95,7 @@ impl<'a, B: Backend> Connection<'a, B> {
         match self {
             Connection::Empty => true,
             Connection::Head(head) => !is_head_over(head.accepted, now),
-            Connection::Open(open) if open.is_stale(now, stale) => false,
-            Connection::Open(open) => open.desk.handler.refresh(now),
+            Connection::Open(open) => open.refresh(now, stale),
             Connection::Leaving(leaving) => !leaving.is_over(now),
         }
     }
@@ -109,10 +114,74 @@ pub(crate) enum Turned {
 }
 
 impl<'a, B: Backend> Open<'a, B> {
+    ghost use Rattle.cf_dispatch.specs.Outlet.{Takes};
+
+    /// One whose handshake was answered at this moment: its session sits at a desk of its own.
+    pub(crate) fn new(wire: Wire<Gather<Socket>>, backend: &'a B, now: u64) -> Open<'a, B> {
+        Open {
+            wire,
+            desk: SessionDesk::new(backend, now),
+            is_spent: false,
+        }
+    }
+
     // Whether it has no session, so many seconds after it was opened.
     fn is_stale(&self, now: u64, stale: u64) -> bool {
         let client = &self.desk.handler.client;
         stale != 0 && !client.has_session() && now.saturating_sub(client.refreshed) >= stale
+    }
+
+    /// What a second brings: whether it still stands. One that has sent no connect command for `stale` seconds doesn't, where
+    /// that isn't 0.
+    pub(crate) fn refresh(&mut self, now: u64, stale: u64) -> bool {
+        !self.is_stale(now, stale) && self.desk.handler.refresh(now)
+    }
+
+    /// What a second brings before the hub's pings. Who waits for its turn may have answered, and so may who was just heard and
+    /// had sent much: its answer may have had no room in the socket.
+    pub(crate) fn looks_for_pong(&mut self, now: u64, waits: bool) {
+        let is_unheard = self.desk.heard_much() || waits;
+        self.desk.handler.looks_for_pong(now, is_unheard);
+    }
+
+    /// Its socket is ready. What is seen of it without reading counts at once: a client that sends nothing more is present
+    /// nowhere.
+    pub(crate) fn notice(&mut self, readable: bool, ended: bool) {
+        self.wire.stream_mut().stream_mut().notice(readable, ended);
+        if ended {
+            self.desk.handler.keep_gone();
+        }
+    }
+
+    /// Whether its client waits until nobody has to who is held.
+    pub(crate) fn is_held(&self) -> bool {
+        self.desk.is_held()
+    }
+
+    /// A turn in which its client is heard is to come from this moment on: in which group, and whether it is held, since it
+    /// published while some node was behind, or has spent the bounds of its last turn on more than the loop sends in one, or what
+    /// it sent was put off.
+    pub(crate) fn is_owed(&mut self, now: u64) -> (Group, bool) {
+        let puts_off = self.desk.puts_off();
+        let handler = &mut self.desk.handler;
+        handler.is_owed(now);
+        let is_held = handler.is_held || self.is_spent && handler.cost >= LOOP_BUDGET;
+        (handler.group(is_held), is_held || puts_off)
+    }
+
+    /// A turn begins at this moment in which its client is heard, and what may publish is put off, or not. Who was put off has
+    /// its turn now, as whole as any other's.
+    pub(crate) fn begin_turn(&mut self, now: u64, bars: bool) {
+        let bars = bars && !self.desk.puts_off();
+        self.desk.handler.begin_turn(now, bars);
+    }
+
+    /// A turn is over: who brings on what was published in it is woken, and its session sits at this slot from now on. What the
+    /// turn cost, and whether the bounds of one are spent.
+    pub(crate) fn end_turn(&mut self, owners: &mut Vec<usize>, slot: usize) -> (u64, bool) {
+        self.desk.handler.ring();
+        self.desk.handler.client.sits_at(owners, slot);
+        (self.desk.handler.cost, self.is_spent)
     }
 
     /// Takes a turn: sends what waits while the socket takes it, and where it is to hear, carries on
@@ -161,9 +230,53 @@ impl<'a, B: Backend> Open<'a, B> {
         self.takes_more() && (self.desk.goes_on() || self.desk.owed)
     }
 
-    /// Whether what is taken for its client can be sent at once.
-    pub(crate) fn takes_more(&self) -> bool {
-        self.desk.is_sent() && !self.wire.is_unflushed() && self.wire.stream().is_drained()
+    // Whether its wire takes more at once.
+    fn is_free(&self) -> bool {
+        !self.wire.is_unflushed() && self.wire.stream().is_drained()
+    }
+
+    // Whether what is taken for its client can be sent at once.
+    fn takes_more(&self) -> bool {
+        self.desk.is_sent() && self.is_free()
+    }
+
+    /// The session of this number has its turn in the hub that is lent: if it is the client's own, and what is taken for it can
+    /// be sent at once, what waits there is taken. Whether the wire takes more at once.
+    pub(crate) fn take_waiting(&mut self, hub: &mut NodeHub<B::Of>, session: u32) -> bool
+        ensures takes { Takes session hub.old.node hub.new.node self.old.desk.outbox.outs.items
+            self.new.desk.outbox.outs.items }
+        ensures wire { self.new.wire ≡ self.old.wire }
+    {
+        let is_free = self.takes_more();
+        self.desk.take_waiting(hub, session, is_free);
+        self.is_free()
+    }
+
+    /// Looks whether its client's session is over.
+    pub(crate) fn looks_for_end(&mut self) {
+        self.desk.handler.looks_for_end();
+    }
+
+    /// Its client's session is closed with this code, which is still to be told.
+    pub(crate) fn close(&mut self, code: CloseCode) {
+        self.desk.owed = true;
+        let handler = &self.desk.handler;
+        handler.backend.hub().close(&handler.client, code.code());
+    }
+
+    /// The last is written to it at this moment: its client's session goes, and the socket stays until its client has read that.
+    pub(crate) fn see_off(self, now: u64) -> Leaving {
+        let Open { wire, mut desk, .. } = self;
+        let leaving = Leaving::new(wire.into_stream(), now);
+        desk.handler.give_up();
+        leaving
+    }
+
+    /// It is over: its socket is closed, and then its client's session goes.
+    pub(crate) fn end(self) {
+        let Open { wire, mut desk, .. } = self;
+        drop(wire);
+        desk.handler.give_up();
     }
 }
 

@@ -1,6 +1,6 @@
 //! What stands between a wire and its session: texts are heard, and what the hub has for the client
 //! is handed out.
-ghost use Rattle.std.specs.Prelude.{◌≡◌, ◌≢◌, ◌==◌, ◌++◌, true, false};
+ghost use Rattle.std.specs.Prelude.{◌≡◌, ◌≢◌, ◌==◌, Some, [], true, false};
 ghost use Rattle.std.specs.VecDeque.{deque_len};
 ghost use Rattle.cf_session.specs.SessionMachine.{HearsText};
 ghost use Rattle.cf_session.specs.Standing.{is_idle, met_refused_memory, progress_of, tables_of};
@@ -11,7 +11,8 @@ ghost use Rattle.cf_node.specs.Ready.{AskStreams-prop, is_out};
 use crate::attached_client::AttachedClient;
 use crate::backend::Backend;
 use crate::command_handler::CommandHandler;
-use cf_dispatch::Outbox;
+use cf_dispatch::{Outbox, take_for};
+use cf_node_hub::NodeHub;
 use cf_queue::Out;
 use cf_session::laws::idle_can_go_on;
 use cf_session::{Budget, CommandExecutor, Desk, Session, carry_on, hear_text};
@@ -147,7 +148,7 @@ impl<'a, B: Backend> Desk for SessionDesk<'a, B> {
 }
 
 impl<'a, B: Backend> SessionDesk<'a, B> {
-    ghost use Rattle.cf_dispatch.specs.Outlet.{is_for};
+    ghost use Rattle.cf_dispatch.specs.Outlet.{Takes, waits_at};
     ghost use Rattle.cf_node.specs.Desk.{CarriesOn, Grows, HandsOut};
 
     pub(crate) fn new(backend: &'a B, now: u64) -> SessionDesk<'a, B> {
@@ -271,34 +272,21 @@ impl<'a, B: Backend> SessionDesk<'a, B> {
         }
     }
 
-    /// Lends what was taken for the client, if the session of this number is its own, to be given back with what is taken for it
-    /// since; else one with nothing in it.
-    pub(crate) fn lend(&mut self, session: u32) -> Outbox
-        ensures own { is_for session result ≡ true }
-        ensures kept { self.old.outbox.outs.items
-            ≡ result.outs.items ++ self.new.outbox.outs.items }
+    /// The session of this number has its turn in the hub that is lent: if it is the client's own, and its wire is free, what
+    /// waits there is taken behind what was taken before. Else nothing is.
+    pub(crate) fn take_waiting(&mut self, hub: &mut NodeHub<B::Of>, session: u32, is_free: bool)
+        ensures takes { Takes session hub.old.node hub.new.node self.old.outbox.outs.items
+            self.new.outbox.outs.items }
+        ensures other { self.old.handler.client.standing.number ≢ Some session →
+            (hub.new ≡ hub.old) × (self.new.outbox ≡ self.old.outbox) }
+        ensures all { self.new.owed ≡ false → waits_at hub.new.node session ≡ [] }
     {
-        let empty = Outbox::new(self.handler.backend.alloc());
-        if self.handler.client.is_of(session) && self.outbox.is_for(session) {
-            mem::replace(&mut self.outbox, empty)
-        } else {
-            empty
-        }
-    }
-
-    /// What was lent comes back with what was taken since, where it is of the client's own session; and more may wait for it in
-    /// the hub, or not.
-    pub(crate) fn give(&mut self, outbox: Outbox, more: bool)
-        ensures own { outbox.session ≡ self.old.handler.client.standing.number
-            → self.new.outbox ≡ outbox }
-        ensures other { outbox.session ≢ self.old.handler.client.standing.number
-            → self.new.outbox ≡ self.old.outbox }
-    {
-        self.owed = more;
-        if !self.handler.client.owns(&outbox) {
+        if !self.handler.client.is_of(session) {
+            self.owed = true;
             return;
         }
-        self.outbox = outbox;
+        let taken = take_for(hub, session, is_free, &mut self.outbox);
+        self.owed = taken.leaves_more();
     }
 
     // What goes out next.

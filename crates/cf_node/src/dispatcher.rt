@@ -4,14 +4,13 @@ ghost use Rattle.cf_dispatch.specs.Dispatch.{Dispatches};
 
 use crate::costs::{Reach, bucket_of};
 use crate::gate::{DISPATCHER, Gate};
-use crate::shared::{MANY, Shared};
+use crate::shared::{HubToFill, MANY, Shared};
 use cf_dispatch::{Mailbox, pass_on};
 use cf_hub::Delivered;
 use cf_link::Receiver;
-use cf_node_hub::NodeHub;
 use cf_shard::{Delivery, Naming, ShardWords};
+use std::sync::Wait;
 use std::sync::atomic::{AtomicU64, Ordering};
-use std::sync::{MutexGuard, Wait};
 use std::thread;
 use std::time::{Clock, Duration};
 
@@ -28,7 +27,7 @@ pub(crate) struct NodeMailbox<'a, R, G, N: Naming, W> {
     words: &'a W,
     shared: &'a Shared<N>,
     // The hub, while more waits to be brought to it.
-    hub: Option<MutexGuard<'a, NodeHub<N>>>,
+    hub: Option<HubToFill<'a, N>>,
     // How many publications were brought under this lock, and sessions met them.
     met: u32,
     node: u8,

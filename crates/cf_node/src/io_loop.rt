@@ -5,14 +5,14 @@ use crate::acceptor::{Acceptor, LISTENER, WAKER};
 use crate::backend::Backend;
 use crate::connection::{Connection, Head, HeadStage, Open, Turned};
 use crate::costs::{CALL, LOOP_BUDGET};
-use crate::desk::SessionDesk;
 use crate::error_counts::NodeError;
 use crate::gate::{Gate, IO_LOOP};
 use crate::leaving::Leaving;
 use crate::socket::Socket;
-use cf_dispatch::{GROUPS, Group, Outbox, Outlets, Rota, SESSIONS_AT_ONCE, Ticks, take_batch};
+use cf_dispatch::{GROUPS, Group, Outlets, Rota, SESSIONS_AT_ONCE, Ticks};
 use cf_fair::FairQueue;
 use cf_health::health_ask;
+use cf_node_hub::NodeHub;
 use cf_protocol::CloseCode;
 use cf_session::Wire;
 use cf_wire::Gather;
@@ -184,12 +184,7 @@ fn opened<'a, B: Backend>(
     }
     match Wire::accept(backend.alloc(), gather) {
         Ok(wire) => {
-            let open = Open {
-                wire,
-                desk: SessionDesk::new(backend, now),
-                is_spent: false,
-            };
-            match Box::new(backend.alloc(), open) {
+            match Box::new(backend.alloc(), Open::new(wire, backend, now)) {
                 Ok(open) => Connection::Open(open),
                 Err(_) => Connection::Empty,
             }
@@ -321,15 +316,12 @@ impl<'a, B: Backend> IoLoop<'a, B> {
         self.serve_named();
     }
 
-    // Looks who answers its pings. Who waits for its turn may have answered, and so may who was just heard and had sent much: its
-    // answer may have had no room in the socket.
+    // Looks who answers its pings. Who waits for its turn may have answered.
     fn look_for_pongs(&mut self) {
         for slot in 0..self.slots.len() {
             let waits = self.waits(slot);
             if let Some(Connection::Open(open)) = self.slots.get_mut(slot) {
-                let is_unheard = open.desk.heard_much() || waits;
-                let handler = &mut open.desk.handler;
-                handler.looks_for_pong(self.ticks.done(), is_unheard);
+                open.looks_for_pong(self.ticks.done(), waits);
             }
         }
     }
@@ -346,11 +338,8 @@ impl<'a, B: Backend> IoLoop<'a, B> {
             match self.slots.get_mut(token.0) {
                 Some(Connection::Head(head)) => head.socket.notice(readable, ended),
                 Some(Connection::Open(open)) => {
-                    open.wire.stream_mut().stream_mut().notice(readable, ended);
-                    if ended {
-                        open.desk.handler.keep_gone();
-                    }
-                    if event.is_error() && open.desk.is_held() {
+                    open.notice(readable, ended);
+                    if event.is_error() && open.is_held() {
                         return self.end(token.0);
                     }
                 }
@@ -363,24 +352,15 @@ impl<'a, B: Backend> IoLoop<'a, B> {
         }
     }
 
-    // A turn of the connection at a slot is to come: held, where it published while some node was
-    // behind, or has spent the bounds of its last turn on more than the loop sends in one, or what it
-    // sent was put off.
+    // A turn of the connection at a slot is to come.
     fn owe(&mut self, slot: usize) {
         if self.waits(slot) {
             return;
         }
-        let mut is_held = false;
-        let mut group = Group::Cheap;
-        if let Some(Connection::Open(open)) = self.slots.get_mut(slot) {
-            let puts_off = open.desk.puts_off();
-            let is_spent = open.is_spent;
-            let handler = &mut open.desk.handler;
-            handler.is_owed(self.ticks.done());
-            is_held = handler.is_held || is_spent && handler.cost >= LOOP_BUDGET;
-            group = handler.group(is_held);
-            is_held = is_held || puts_off;
-        }
+        let (group, is_held) = match self.slots.get_mut(slot) {
+            Some(Connection::Open(open)) => open.is_owed(self.ticks.done()),
+            _ => (Group::Cheap, false),
+        };
         if self.queue_of(group).add(slot, is_held).is_err() {
             self.end(slot);
         }
@@ -583,15 +563,12 @@ impl<'a, B: Backend> IoLoop<'a, B> {
         let turned = match connection {
             Connection::Open(open) => {
                 if hears {
-                    // Who was put off has its turn now, as whole as any other's.
-                    let bars = bars && !open.desk.puts_off();
-                    open.desk.handler.begin_turn(self.ticks.done(), bars);
+                    open.begin_turn(self.ticks.done(), bars);
                 }
                 let turned = open.turn(&mut self.buffer, self.ticks.done(), hears);
-                cost = open.desk.handler.cost;
-                is_spent = open.is_spent;
-                open.desk.handler.ring();
-                open.desk.handler.client.sits_at(&mut self.owners, slot);
+                let told = open.end_turn(&mut self.owners, slot);
+                cost = told.0;
+                is_spent = told.1;
                 turned
             }
             Connection::Leaving(leaving) => leaving.turn(),
@@ -617,10 +594,8 @@ impl<'a, B: Backend> IoLoop<'a, B> {
         };
         match mem::replace(connection, Connection::Empty) {
             Connection::Open(open) => {
-                let Open { wire, mut desk, .. } = Box::into_inner(open);
-                let leaving = Leaving::new(wire.into_stream(), self.now);
+                let leaving = Box::into_inner(open).see_off(self.now);
                 *connection = Connection::Leaving(leaving);
-                desk.handler.give_up();
             }
             other => *connection = other,
         }
@@ -634,11 +609,7 @@ impl<'a, B: Backend> IoLoop<'a, B> {
         };
         match mem::replace(connection, Connection::Empty) {
             Connection::Empty => return,
-            Connection::Open(open) => {
-                let Open { wire, mut desk, .. } = Box::into_inner(open);
-                drop(wire);
-                desk.handler.give_up();
-            }
+            Connection::Open(open) => Box::into_inner(open).end(),
             Connection::Head(_) | Connection::Leaving(_) => {}
         }
         self.vacate(slot);
@@ -661,7 +632,7 @@ impl<'a, B: Backend> IoLoop<'a, B> {
             return;
         }
         for _ in 0..MOST_BATCHES {
-            take_batch(&mut self.backend.hub(), self);
+            self.backend.hub().give_turns(self);
             if self.batch.is_empty() {
                 return;
             }
@@ -678,7 +649,7 @@ impl<'a, B: Backend> IoLoop<'a, B> {
                 Some(named) if named.is_free => self.serve(named.slot, false),
                 Some(named) => {
                     if let Some(Connection::Open(open)) = self.slots.get_mut(named.slot) {
-                        open.desk.handler.looks_for_end();
+                        open.looks_for_end();
                     }
                 }
                 None => {}
@@ -723,13 +694,7 @@ impl<'a, B: Backend> IoLoop<'a, B> {
     fn close_all(&mut self) {
         for slot in 0..self.slots.len() {
             if let Some(Connection::Open(open)) = self.slots.get_mut(slot) {
-                // Its close is still to be told.
-                open.desk.owed = true;
-                let code = CloseCode::Shutdown.code();
-                open.desk
-                    .handler
-                    .client
-                    .close(&mut self.backend.hub(), code);
+                open.close(CloseCode::Shutdown);
             }
             self.serve(slot, false);
         }
@@ -742,37 +707,17 @@ fn slot_of(owners: &[usize], session: u32) -> usize {
 }
 
 impl<'a, B: Backend> Outlets for IoLoop<'a, B> {
-    // What a socket has room for is nothing that a contract can name.
-    ghost frees = { λ _ _ _. Unit {0} };
+    type Of = B::Of;
 
-    ghost lends = { λ _ _ _ _. Unit {0} };
-
+    // To which slot that is is checked by reading.
     ghost gets = { λ _ _ _ _ _. Unit {0} };
 
-    fn is_free(&self, session: u32) -> bool {
-        match self.slots.get(slot_of(&self.owners, session)) {
-            Some(Connection::Open(open)) => {
-                open.desk.handler.client.is_of(session) && open.takes_more()
-            }
-            _ => false,
-        }
-    }
-
-    fn lend(&mut self, session: u32) -> Outbox {
-        let slot = slot_of(&self.owners, session);
-        match self.slots.get_mut(slot) {
-            Some(Connection::Open(open)) => open.desk.lend(session),
-            _ => Outbox::new(self.backend.alloc()),
-        }
-    }
-
-    fn give(&mut self, session: u32, outbox: Outbox, more: bool) {
+    fn take(&mut self, hub: &mut NodeHub<B::Of>, session: u32) {
         let slot = slot_of(&self.owners, session);
         let Some(Connection::Open(open)) = self.slots.get_mut(slot) else {
             return;
         };
-        let is_free = open.takes_more();
-        open.desk.give(outbox, more);
+        let is_free = open.take_waiting(hub, session);
         // There is room for it.
         let _ = self.batch.push(Named { slot, is_free });
     }

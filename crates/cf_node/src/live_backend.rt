@@ -4,6 +4,7 @@ ghost use Rattle.std.specs.Prelude.{◌≡◌, ◌<◌, IfSome};
 ghost use Rattle.cf_shard.specs.Shards.{number_of};
 ghost use Rattle.cf_node.specs.Answered.{StoodAt};
 
+use crate::attached_client::LockedHub;
 use crate::backend::Backend;
 use crate::error_counts::NodeError;
 use crate::node::Setup;
@@ -11,7 +12,7 @@ use crate::shared::Shared;
 use crate::window::Window;
 use cf_broker::{Broker, Passes, SHARDS, shard_of};
 use cf_dispatch::keeps_presence;
-use cf_node_hub::{Begun, NodeHub};
+use cf_node_hub::Begun;
 use cf_order::Pass;
 use cf_presence::Stats;
 use cf_protocol::Position;
@@ -21,7 +22,7 @@ use cf_stream::{Epochs, History, Published, Recovery};
 use std::alloc::Global;
 use std::cell::RefCell;
 use std::collections::BTreeMap;
-use std::sync::{MutexGuard, Wait};
+use std::sync::Wait;
 
 /// What a node's connections are served with.
 #[derive(Drop)]
@@ -109,7 +110,7 @@ impl<'a, R: Wait, N: Naming, E: Epochs + Drop> Backend for LiveBackend<'a, R, N,
         Session::new(self.alloc, self.setup.namespaces, self.setup.tokens)
     }
 
-    fn hub(&self) -> MutexGuard<'_, NodeHub<N>> {
+    fn hub(&self) -> LockedHub<'_, N> {
         self.shared.hub(self.rt)
     }
 

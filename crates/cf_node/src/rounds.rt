@@ -38,17 +38,17 @@ impl<'a, B: Backend> CommandHandler<'a, B> {
             return;
         }
         if is_unheard && self.client.pongs.owes() {
-            self.client.pong(&mut self.backend.hub());
+            self.backend.hub().pong(&self.client);
         }
         if self.client.pongs.second_comes(now, is_unheard) {
             let code = CloseCode::NoPong.code();
-            self.client.close(&mut self.backend.hub(), code);
+            self.backend.hub().close(&self.client, code);
         }
     }
 
     // A round of the client.
     fn go_round(&mut self) {
-        self.client.forgets_ended(&self.backend.hub());
+        self.backend.hub().forgets_ended(&mut self.client);
         for _ in 0..self.client.channels.len() {
             // Each is taken from the front and, where it stands, put back behind the others.
             if let Some(mut present) = self.client.channels.pop_front() {
@@ -70,14 +70,14 @@ impl<'a, B: Backend> CommandHandler<'a, B> {
         let Some((top, mark)) = self.backend.position_since(channel, present.mark) else {
             return true;
         };
-        let checked = self.client.check(&mut self.backend.hub(), channel, top);
+        let checked = self.backend.hub().check(&self.client, channel, top);
         present.mark = mark_after(checked, mark);
         goes_on(checked)
     }
 
     /// The connection is over: the client's session goes, and it is present nowhere.
     pub(crate) fn give_up(&mut self) {
-        self.client.detach(&mut self.backend.hub());
+        self.backend.hub().detach(&mut self.client);
         self.leave_all();
     }
 

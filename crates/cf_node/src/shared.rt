@@ -1,10 +1,13 @@
 //! What a node's two workers share.
-ghost use Rattle.std.specs.Prelude.{◌≤◌, ◌+◌, ◌↔◌, IsTrue};
+ghost use Rattle.std.specs.Prelude.{◌≡◌, ◌≤◌, ◌+◌, ◌↔◌, IsTrue};
 
+use crate::attached_client::LockedHub;
+use cf_hub::Delivered;
 use cf_node_hub::NodeHub;
-use cf_shard::{Naming, Passes};
+use cf_shard::{Delivery, Naming, Passes, ShardWords};
 use mio::Waker;
 use std::alloc::Global;
+use std::marker::Model;
 use std::sync::atomic::{AtomicU64, Ordering};
 use std::sync::{Mutex, MutexGuard, Wait};
 use std::thread;
@@ -31,6 +34,40 @@ const MOST_YIELDS: u32 = 1000;
 
 /// A worker that took no turn for more seconds than these doesn't live.
 const SECONDS_FOR_TURN: u64 = 2;
+
+/// The hub under its lock, for the dispatcher: publications are brought to it, and nothing else is done there.
+#[derive(Drop)]
+pub(crate) struct HubToFill<'a, N: Naming> {
+    hub: MutexGuard<'a, NodeHub<N>>,
+}
+
+impl<'a, N: Naming> Model for HubToFill<'a, N> {
+    ghost use Rattle.std.specs.Sync.Mutex.{mutex_guard_value};
+    ghost use Rattle.cf_node_hub.specs.Told.{Knowing};
+
+    ghost Value = { Knowing };
+
+    ghost view = { λ h. mutex_guard_value h.hub };
+}
+
+impl<'a, N: Naming> HubToFill<'a, N> {
+    ghost use Rattle.cf_hub.specs.Hub.{Delivers, EachGetsTurn, tallied};
+
+    /// Brings a publication to each session that follows its channel.
+    pub(crate) fn deliver<W: ShardWords<N>>(
+        &mut self,
+        words: &W,
+        delivery: Delivery<N>,
+    ) -> Delivered
+        ensures each { Delivers delivery.channel delivery.epoch delivery.publication self.old.node
+            self.new.node }
+        ensures counts { result ≡ tallied delivery.channel delivery.epoch delivery.publication
+            self.old.node self.new.node }
+        ensures turns { EachGetsTurn delivery.channel self.old.node self.new.node }
+    {
+        self.hub.deliver(words, delivery)
+    }
+}
 
 /// The hub, and what wakes the IO loop when there is something to send.
 #[derive(Drop)]
@@ -108,16 +145,18 @@ impl<N: Naming> Shared<N> {
     }
 
     /// The hub for the dispatcher.
-    pub(crate) fn lock<R: Wait>(&self, rt: &R) -> MutexGuard<'_, NodeHub<N>> {
-        self.hub.lock(rt)
+    pub(crate) fn lock<R: Wait>(&self, rt: &R) -> HubToFill<'_, N> {
+        HubToFill {
+            hub: self.hub.lock(rt),
+        }
     }
 
     /// The hub for the IO loop, before whom the dispatcher gives way.
-    pub(crate) fn hub<R: Wait>(&self, rt: &R) -> MutexGuard<'_, NodeHub<N>> {
+    pub(crate) fn hub<R: Wait>(&self, rt: &R) -> LockedHub<'_, N> {
         self.wanted.store(1, Ordering::SeqCst);
         let hub = self.hub.lock(rt);
         self.wanted.store(0, Ordering::SeqCst);
-        hub
+        LockedHub::new(hub)
     }
 
     /// The IO loop has sent what waited in the hub, as far as the sockets took it.

@@ -1,0 +1,10 @@
+use Rattle.std.proofs.Common.{sym}
+use Rattle.cf_node.specs.Own.{Checks}
+use Rattle.cf_node.proofs.Owning.{to_own}
+use Rattle.cf_node.proofs.attached_client.AttachedClient.check.Goals as goal
+
+-- a subscription of the client's own session is checked
+pub returns-in-Some : goal.returns-in-Some
+returns-in-Some g c =
+    to_own (Checks c.args.channel.now c.args.top) c.args.self.now.standing.number c.in-Some.number
+    c.args.hub.now.node c.check.new.self.node (sym c.in-Some.ensures) c.check.ensures.session
