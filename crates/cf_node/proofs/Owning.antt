@@ -1,14 +1,10 @@
 -- What is done in a hub for a client's own session.
-use Rattle.std.proofs.Common.{◌≡◌, ℕ, Bool, true, false, Option, Some, None, List, ap}
-use Rattle.std.specs.Prelude.{IsFalse, IsTrue}
+use Rattle.std.proofs.Common.{◌≡◌, ℕ, Option, Some, List}
 use Rattle.cf_protocol.specs.Position.{Position}
-use Rattle.cf_queue.specs.OutQueue.{Item}
 use Rattle.cf_queue.specs.declared.queue.Out.{Out}
-use Rattle.cf_model.specs.Sessions.{SessionState}
-use Rattle.cf_hub.specs.Hub.{Begins, Node, One, Opens, OthersStay, attached_at}
-use Rattle.cf_hub.specs.Wordings.{Held}
+use Rattle.cf_hub.specs.Hub.{Begins, Node, Opens}
 use Rattle.cf_dispatch.specs.Outlet.{Takes}
-use Rattle.cf_node.specs.Own.{BeginsOwn, MovesOwn, OpensOwn, SparesOthers, ToOwn}
+use Rattle.cf_node.specs.Own.{BeginsOwn, MovesOwn, OpensOwn, ToOwn}
 
 pub to_own : (befalls : ℕ → Node → Node → Type 0) (own : Option ℕ) (k : ℕ) (old new : Node) → own ≡ Some k
     → befalls k old new → ToOwn befalls own old new
@@ -25,19 +21,3 @@ opens_own own k user now old new is opens = rw is opens
 pub moves_own : (own : Option ℕ) (k : ℕ) (old new : Node) (had has : List Out)
     → own ≡ Some k → Takes k old new had has → MovesOwn own old new had has
 moves_own own k old new had has is takes = rw is takes
-
--- where no session changes, no other does
-pub spares_all : (own : Option ℕ) (old new : Node) → ((k : ℕ) → attached_at new k ≡ attached_at old k)
-    → SparesOthers own old new
-spares_all None old new same = same
-spares_all (Some k) old new same = λ j other. same j
-
-pub spares_others : (own : Option ℕ) (k : ℕ) (old new : Node) → own ≡ Some k → OthersStay k old new
-    → SparesOthers own old new
-spares_others own k old new is others = rw is others
-
--- whether a read is taken or not, the sessions of others stay
-pub read_others : (taken : Bool) (k : ℕ) (move : SessionState Held Item → SessionState Held Item) (old new : Node)
-    → (IsTrue taken → One k move old new) → (IsFalse taken → new ≡ old) → OthersStay k old new
-read_others true k move old new moves nothing = (moves refl).others
-read_others false k move old new moves nothing = λ j other. ap (λ (h : Node). attached_at h j) (nothing refl)

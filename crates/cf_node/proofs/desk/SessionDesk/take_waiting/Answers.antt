@@ -14,4 +14,4 @@ returns-clause-other g c = λ other. absurd (other (c.is_of.ensures.0 c.if-not-i
 -- what may wait is owed
 pub returns-clause-all : goal.returns-clause-all
 returns-clause-all g c =
-    λ none. c.take_for-taken.ensures.all (all_is_taken c.take_for-taken.result (sym c.leaves_more.ensures ∙ none))
+    λ none. c.take_for-taken.ensures.all (all_is_taken c.take_for-taken.result (sym c.leaves_more-self.ensures ∙ none))
