@@ -1,13 +1,13 @@
 ghost use Rattle.std.specs.Prelude.{◌≡◌};
 
-use cf_order::{Entry, NamedOwner, Naming, Owner, Pass, ShardWord, publish_both};
+use cf_order::{Entry, NamedOwner, Owner, Pass, ShardWord, WordNaming, publish_both};
 use std::marker::Brand;
 use std::process::Abort;
 use std::sync::{Mutex, Wait};
 use std::thread::{Threads, join};
 
 /// Publishes 100 times.
-fn publish_often<N: Naming, R: Wait>(
+fn publish_often<N: WordNaming, R: Wait>(
     rt: &R,
     word: &ShardWord,
     owner: &Mutex<NamedOwner<N>>,
@@ -26,7 +26,7 @@ fn publish_often<N: Naming, R: Wait>(
 }
 
 /// Two threads publish 100 times each with lent passes; joined, the pass has all of their shares.
-fn add_up<N: Naming + Send + Sync, R: Threads + Wait + Abort + Sync>(
+fn add_up<N: WordNaming + Send + Sync, R: Threads + Wait + Abort + Sync>(
     rt: &R,
     word: &ShardWord,
     owner: Owner,
