@@ -3,4 +3,4 @@ use Rattle.std.proofs.Common.{◌≡◌}
 use Rattle.tests_of_libraries.proofs.threads.order.publish_often.Given as goal
 
 abbrev pub invariant-loop : goal.invariant-loop
-invariant-loop g l = l.pass.word ≡ g.N.Naming.word
+invariant-loop g l = l.pass.word ≡ g.N.WordNaming.word
