@@ -79,7 +79,8 @@ impl<'a, B: Backend> Talk<'a, B> {
     fn go_on(&mut self, handler: &mut CommandHandler<'a, B>) -> usize
         ensures goes { CarriesOn B.Of.Naming.namespaces (λ h. h.client.standing.is_over)
             self.old.session handler.old self.new.session handler.new }
-        ensures short { met_refused_memory self.old.session ≡ true → met_refused_memory self.new.session ≡ true }
+        ensures short { met_refused_memory self.old.session ≡ true →
+            met_refused_memory self.new.session ≡ true }
     {
         let mut budget = Budget::new(PART);
         carry_on(&mut self.session, handler, &mut budget);

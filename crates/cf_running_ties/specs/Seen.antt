@@ -26,8 +26,8 @@ pub record IsGood (cfg : Config) (log : List Entry) : Type 0 where
   pub gained : IsGained cfg log
   pub said : AllByRecursion CanBeSaid log
 
--- seen is a beginning of a shard's log, and each of its entries can be said; the shard draws from a source of cf_epochs,
--- keeps what its type keeps of epochs, and its log is counted by a number of 64 bits
+-- seen is a beginning of a shard's log, and each of its entries can be said; the shard draws from a source of
+-- cf_epochs, keeps what its type keeps of epochs, and its log is counted by a number of 64 bits
 pub record IsSeenOf (shard : Lent Source) (seen : List Entry) : Type 0 where
   pub fresh : StaysFresh draws_next shard.epochs shard.log
   pub counted : length shard.log ≤ max_u64
