@@ -1,7 +1,8 @@
 //! What the node keeps of a client, and what is done in the hub for it, while the hub is lent.
 ghost use Rattle.std.specs.Prelude.{◌≡◌, ◌↔◌, ◌≤◌, IfOk, IfSome, IsTrue, None, OnErr, OnOk, Some, is_some, string_bytes, true};
 ghost use Rattle.cf_model.specs.Sessions.{reads};
-ghost use Rattle.cf_hub.specs.Hub.{One, OthersStay, Ticks, sub_at};
+ghost use Rattle.cf_hub.specs.Checked.{check_answer, stand_of};
+ghost use Rattle.cf_hub.specs.Hub.{One, OthersStay, Ticks, attached_at, queued_in, sub_at};
 ghost use Rattle.cf_hub.specs.Subscriptions.{reading_of};
 ghost use Rattle.cf_hub.specs.Wordings.{reading};
 ghost use Rattle.cf_dispatch.specs.Batch.{TakesBatch, most_at_once};
@@ -229,8 +230,10 @@ impl<N: Naming> AttachedClient<N> {
 
     // The subscription is finished. Whether it stands then.
     fn finish(&self, hub: &mut NodeHub<N>, channel: &str) -> bool
-        ensures { ToOwn (Finishes channel.now) self.now.standing.number hub.old.node
+        ensures own { ToOwn (Finishes channel.now) self.now.standing.number hub.old.node
             hub.new.node }
+        ensures stands { IfSome self.now.standing.number
+            (λ k. result ≡ is_some (stand_of (sub_at hub.new.node k channel.now))) }
     {
         let Some(number) = self.standing.number() else {
             return false;
@@ -253,8 +256,10 @@ impl<N: Naming> AttachedClient<N> {
     // gone.
     fn say(&self, hub: &mut NodeHub<N>, text: String) -> bool
         requires { IsReply (string_bytes text) }
-        ensures { ToOwn (Says (string_bytes text)) self.now.standing.number hub.old.node
+        ensures own { ToOwn (Says (string_bytes text)) self.now.standing.number hub.old.node
             hub.new.node }
+        ensures kept { IfSome self.now.standing.number
+            (λ k. IsTrue result ↔ (queued_in (attached_at hub.new.node k) ≡ Queued.Kept)) }
     {
         match self.standing.number() {
             Some(number) => hub.say(number, text) == Queued::Kept,
@@ -273,8 +278,10 @@ impl<N: Naming> AttachedClient<N> {
     ) -> bool
         requires word { pass.word ≡ N.words (number_of channel.now) }
         requires replies { RepliesHistory N.namespaces pass.log channel.now (string_bytes text) }
-        ensures { ToOwn (Says (string_bytes text)) self.now.standing.number hub.old.node
+        ensures own { ToOwn (Says (string_bytes text)) self.now.standing.number hub.old.node
             hub.new.node }
+        ensures kept { IfSome self.now.standing.number
+            (λ k. IsTrue result ↔ (queued_in (attached_at hub.new.node k) ≡ Queued.Kept)) }
     {
         match self.standing.number() {
             Some(number) => hub.say_history(words, number, channel, text, pass) == Queued::Kept,
@@ -304,8 +311,10 @@ impl<N: Naming> AttachedClient<N> {
 
     // Checks a subscription of its session against where the channel's stream stands.
     fn check(&self, hub: &mut NodeHub<N>, channel: &str, top: Option<Position>) -> Checked
-        ensures { ToOwn (Checks channel.now top) self.now.standing.number hub.old.node
+        ensures own { ToOwn (Checks channel.now top) self.now.standing.number hub.old.node
             hub.new.node }
+        ensures answer { IfSome self.now.standing.number
+            (λ k. result ≡ check_answer top (sub_at hub.old.node k channel.now)) }
     {
         match self.standing.number() {
             Some(number) => hub.check(number, channel, top),
@@ -428,8 +437,10 @@ impl<'a, N: Naming> LockedHub<'a, N> {
 
     /// A subscription of the client is finished. Whether it stands then.
     pub(crate) fn finish(&mut self, client: &AttachedClient<N>, channel: &str) -> bool
-        ensures { ToOwn (Finishes channel.now) client.now.standing.number self.old.node
+        ensures own { ToOwn (Finishes channel.now) client.now.standing.number self.old.node
             self.new.node }
+        ensures stands { IfSome client.now.standing.number
+            (λ k. result ≡ is_some (stand_of (sub_at self.new.node k channel.now))) }
     {
         client.finish(&mut self.hub, channel)
     }
@@ -446,8 +457,10 @@ impl<'a, N: Naming> LockedHub<'a, N> {
     /// gone.
     pub(crate) fn say(&mut self, client: &AttachedClient<N>, text: String) -> bool
         requires { IsReply (string_bytes text) }
-        ensures { ToOwn (Says (string_bytes text)) client.now.standing.number self.old.node
+        ensures own { ToOwn (Says (string_bytes text)) client.now.standing.number self.old.node
             self.new.node }
+        ensures kept { IfSome client.now.standing.number
+            (λ k. IsTrue result ↔ (queued_in (attached_at self.new.node k) ≡ Queued.Kept)) }
     {
         client.say(&mut self.hub, text)
     }
@@ -463,8 +476,10 @@ impl<'a, N: Naming> LockedHub<'a, N> {
     ) -> bool
         requires word { pass.word ≡ N.words (number_of channel.now) }
         requires replies { RepliesHistory N.namespaces pass.log channel.now (string_bytes text) }
-        ensures { ToOwn (Says (string_bytes text)) client.now.standing.number self.old.node
+        ensures own { ToOwn (Says (string_bytes text)) client.now.standing.number self.old.node
             self.new.node }
+        ensures kept { IfSome client.now.standing.number
+            (λ k. IsTrue result ↔ (queued_in (attached_at self.new.node k) ≡ Queued.Kept)) }
     {
         client.say_history(&mut self.hub, words, channel, text, pass)
     }
@@ -490,8 +505,10 @@ impl<'a, N: Naming> LockedHub<'a, N> {
         channel: &str,
         top: Option<Position>,
     ) -> Checked
-        ensures { ToOwn (Checks channel.now top) client.now.standing.number self.old.node
+        ensures own { ToOwn (Checks channel.now top) client.now.standing.number self.old.node
             self.new.node }
+        ensures answer { IfSome client.now.standing.number
+            (λ k. result ≡ check_answer top (sub_at self.old.node k channel.now)) }
     {
         client.check(&mut self.hub, channel, top)
     }

@@ -5,7 +5,7 @@ use Rattle.cf_node.proofs.Owning.{to_own}
 use Rattle.cf_node.proofs.attached_client.AttachedClient.say.Goals as goal
 
 -- it is said to the client's own session
-pub returns-in-Some : goal.returns-in-Some
-returns-in-Some g c =
+pub returns-in-Some-clause-own : goal.returns-in-Some-clause-own
+returns-in-Some-clause-own g c =
     to_own (Says (string_bytes c.args.text)) c.args.self.now.standing.number c.in-Some.number c.args.hub.now.node
     c.say.new.self.node (sym c.in-Some.ensures) c.say.ensures.session
