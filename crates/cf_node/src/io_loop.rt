@@ -11,7 +11,7 @@ use crate::leaving::Leaving;
 use crate::socket::Socket;
 use cf_dispatch::{GROUPS, Group, Outlets, Rota, SESSIONS_AT_ONCE, Ticks};
 use cf_fair::FairQueue;
-use cf_health::health_ask;
+use cf_health::{HealthAsk, health_ask};
 use cf_node_hub::NodeHub;
 use cf_protocol::CloseCode;
 use cf_session::Wire;
@@ -176,8 +176,7 @@ fn opened<'a, B: Backend>(
         Connection::Head(head) => head,
         _ => return Connection::Empty,
     };
-    // Those who ask by `GET` are answered as who wants a WebSocket.
-    let asks = health_ask(head.socket.early.as_slice());
+    let asks = asks_for_health(head.socket.early.as_slice());
     let gather = Gather::new(backend.alloc(), head.socket, GATHERED);
     if let Some(ask) = asks {
         return leaves(Leaving::told(gather, ask.answer(is_well), now));
@@ -191,6 +190,15 @@ fn opened<'a, B: Backend>(
         }
         Err(refused) => leaves(Leaving::refused(refused, is_well, now)),
     }
+}
+
+// How a head asks for the node's health otherwise than by `GET`. Those who ask by `GET` are answered as who wants a WebSocket, so
+// their head is read but once.
+fn asks_for_health(head: &[u8]) -> Option<HealthAsk> {
+    if head.starts_with(b"GET ") {
+        return None;
+    }
+    health_ask(head)
 }
 
 // A connection that is let go, if there is somebody to read what it is told.
