@@ -43,6 +43,7 @@ var cfg struct {
 	limit, stall, step   time.Duration
 	lazy                 time.Duration
 	ref                  time.Duration
+	rep                  int
 }
 
 // refLength: how long a ref is measured, if -ref doesn't say.
@@ -100,6 +101,9 @@ func base(scenario string) result {
 		"scenario": name, "kind": scenario, "peer": cfg.peer, "profile": cfg.profile.String(),
 		"nodes": len(cfg.addrs),
 	}
+	if cfg.rep > 0 {
+		r["rep"] = cfg.rep
+	}
 	return r
 }
 
@@ -126,7 +130,7 @@ func fail(format string, a ...interface{}) {
 
 func main() {
 	if len(os.Args) < 2 {
-		fmt.Fprintln(os.Stderr, "loadgen fanout|many|connect|recover [flags]; loadgen table FILE..; loadgen ref [N [PID]]; loadgen ports N")
+		fmt.Fprintln(os.Stderr, "loadgen fanout|many|connect|recover [flags]; loadgen table [-ours NAME,NAME..] FILE..; loadgen ref [N [PID]]; loadgen ports N")
 		os.Exit(2)
 	}
 	scenarioName = os.Args[1]
@@ -177,6 +181,7 @@ func main() {
 	f.IntVar(&cfg.rounds, "rounds", 3, "recover: rounds of each kind")
 	f.IntVar(&cfg.rbuf, "rbuf", 1024, "gorilla's read buffer")
 	f.DurationVar(&cfg.ref, "ref", refLength, "how long a ref is measured, before and again after")
+	f.IntVar(&cfg.rep, "rep", 0, "number of the repetition, for the result")
 	f.DurationVar(&cfg.limit, "limit", 120*time.Second, "the whole run must be done in this time")
 	f.DurationVar(&cfg.stall, "stall", 10*time.Second, "no progress for so long is an error")
 	f.DurationVar(&cfg.step, "step", 10*time.Second, "limit for one dial, one reply, one write")
