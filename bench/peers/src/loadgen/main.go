@@ -46,7 +46,7 @@ var cfg struct {
 	rep                  int
 }
 
-// refLength: how long a ref is measured, if -ref doesn't say.
+// refLength: the CPU time that a ref is measured for, if -ref doesn't say.
 const refLength = 800 * time.Millisecond
 
 var began = time.Now()
@@ -180,7 +180,7 @@ func main() {
 	f.IntVar(&cfg.during, "during", 40, "recover: publishes in each channel while clients come back")
 	f.IntVar(&cfg.rounds, "rounds", 3, "recover: rounds of each kind")
 	f.IntVar(&cfg.rbuf, "rbuf", 1024, "gorilla's read buffer")
-	f.DurationVar(&cfg.ref, "ref", refLength, "how long a ref is measured, before and again after")
+	f.DurationVar(&cfg.ref, "ref", refLength, "CPU time that a ref is measured for, before and again after")
 	f.IntVar(&cfg.rep, "rep", 0, "number of the repetition, for the result")
 	f.DurationVar(&cfg.limit, "limit", 120*time.Second, "the whole run must be done in this time")
 	f.DurationVar(&cfg.stall, "stall", 10*time.Second, "no progress for so long is an error")
