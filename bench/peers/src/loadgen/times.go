@@ -2,6 +2,7 @@ package main
 
 import (
 	"fmt"
+	"math"
 	"sort"
 )
 
@@ -28,7 +29,7 @@ func (b *book) times(ours []string) {
 	first := ours[0]
 	for _, other := range ours[1:] {
 		fmt.Printf("\n### Times the first of ours: %s beside %s\n\n", other, first)
-		fmt.Printf("CPU time of the server, medians; ratios are %s / %s. \"Paired\" is the median of the ratios of runs of the same repetition, with the least and the most of them.\n\n", other, first)
+		fmt.Printf("CPU time of the server, medians; ratios are %s / %s. \"Paired\" is the median of the ratios of runs of the same repetition; behind it is between what it lies 19 times of 20 (of less than six pairs, less often), from the spread of these ratios.\n\n", other, first)
 		head := []string{"scenario", "of a", "pairs"}
 		for _, unit := range []string{"us", "refs"} {
 			head = append(head, unit+": "+first, other, "ratio of medians", "paired")
@@ -59,13 +60,28 @@ func ratioOfMedians(first, other []result, key string) string {
 	return fmt.Sprintf("%.3f", middle(b)/middle(a))
 }
 
-// pairedRatio: median (least to most).
+// pairedRatio: median (between what it lies).
 func pairedRatio(first, other []result, key string) string {
 	v := paired(first, other, key)
 	if len(v) == 0 {
 		return "-"
 	}
-	return fmt.Sprintf("%.3f (%.2f to %.2f)", middle(v), v[0], v[len(v)-1])
+	k := outside(len(v))
+	return fmt.Sprintf("%.3f (%.2f to %.2f)", middle(v), v[k], v[len(v)-1-k])
+}
+
+// outside: how many of n sorted values may be left out at each end so that the true
+// median still lies within the others 19 times of 20; 0 for less than nine. (Of
+// less than six not even all do.)
+func outside(n int) int {
+	k, one := 0, math.Pow(0.5, float64(n)) // one: the chance that just k lie below the median
+	for below := one; ; k++ {
+		one *= float64(n-k) / float64(k+1)
+		below += one
+		if below > 0.025 {
+			return k
+		}
+	}
 }
 
 // paired answers, sorted, the ratio of each two runs of the same repetition, both
