@@ -42,7 +42,12 @@ var cfg struct {
 	rbuf                 int
 	limit, stall, step   time.Duration
 	lazy                 time.Duration
+	ref                  time.Duration
+	rep                  int
 }
+
+// refLength: the CPU time that a ref is measured for, if -ref doesn't say.
+const refLength = 800 * time.Millisecond
 
 var began = time.Now()
 
@@ -56,6 +61,12 @@ func round(v float64, d int) float64 {
 	return math.Round(v*p) / p
 }
 func maxf(a, b float64) float64 {
+	if a > b {
+		return a
+	}
+	return b
+}
+func maxInt(a, b int) int {
 	if a > b {
 		return a
 	}
@@ -86,10 +97,14 @@ func base(scenario string) result {
 	if cfg.label != "" {
 		name = cfg.label
 	}
-	return result{
+	r := result{
 		"scenario": name, "kind": scenario, "peer": cfg.peer, "profile": cfg.profile.String(),
 		"nodes": len(cfg.addrs),
 	}
+	if cfg.rep > 0 {
+		r["rep"] = cfg.rep
+	}
+	return r
 }
 
 var scenarioName string
@@ -115,12 +130,16 @@ func fail(format string, a ...interface{}) {
 
 func main() {
 	if len(os.Args) < 2 {
-		fmt.Fprintln(os.Stderr, "loadgen fanout|many|connect|recover [flags]; loadgen table FILE..; loadgen ports N")
+		fmt.Fprintln(os.Stderr, "loadgen fanout|many|connect|recover [flags]; loadgen table [-ours NAME,NAME..] FILE..; loadgen ref [N [PID]]; loadgen ports N")
 		os.Exit(2)
 	}
 	scenarioName = os.Args[1]
 	if scenarioName == "table" {
 		table(os.Args[2:])
+		return
+	}
+	if scenarioName == "ref" {
+		printRefs(os.Args[2:])
 		return
 	}
 	if scenarioName == "ports" {
@@ -161,6 +180,8 @@ func main() {
 	f.IntVar(&cfg.during, "during", 40, "recover: publishes in each channel while clients come back")
 	f.IntVar(&cfg.rounds, "rounds", 3, "recover: rounds of each kind")
 	f.IntVar(&cfg.rbuf, "rbuf", 1024, "gorilla's read buffer")
+	f.DurationVar(&cfg.ref, "ref", refLength, "CPU time that a ref is measured for, before and again after")
+	f.IntVar(&cfg.rep, "rep", 0, "number of the repetition, for the result")
 	f.DurationVar(&cfg.limit, "limit", 120*time.Second, "the whole run must be done in this time")
 	f.DurationVar(&cfg.stall, "stall", 10*time.Second, "no progress for so long is an error")
 	f.DurationVar(&cfg.step, "step", 10*time.Second, "limit for one dial, one reply, one write")
