@@ -12,21 +12,17 @@ use Rattle.websocket.specs.declared.protocol.frame.coding.Control.TheVariants as
 use Rattle.websocket.specs.declared.protocol.frame.coding.OpCode.TheVariants as Op
 use Rattle.websocket.specs.declared.error.Error.{Error as FrameError}
 use Rattle.websocket.specs.declared.error.Error.TheVariants as frame
-use Rattle.websocket.specs.declared.error.ProtocolError.TheVariants.{InvalidCloseCode, SendAfterClosing}
+use Rattle.websocket.specs.declared.error.ProtocolError.TheVariants.{InvalidCloseCode}
 use Rattle.websocket.specs.declared.protocol.frame.coding.CloseCode.{CloseCode as FrameCode}
 use Rattle.websocket.specs.declared.protocol.state.WebSocketState.{WebSocketState}
 use Rattle.websocket.specs.declared.protocol.state.WebSocketState.TheVariants as State
 use Rattle.websocket.proofs.DecodeLemmas.{ltb_false}
 use Rattle.websocket.proofs.RoundTripLemmas.{close_code_number-close_code_of}
-use Rattle.tungstenite.specs.Failure.{IsIo, of_frame}
 use Rattle.cf_protocol.specs.Codes.{close_reason_of, close_reason_by, reason_or}
 use Rattle.cf_protocol.specs.Codes.{close_code_of as code_number}
 use Rattle.cf_protocol.specs.declared.codes.CloseCode.{CloseCode}
 use Rattle.cf_protocol.specs.declared.codes.CloseCode.TheVariants as ours
 use Rattle.cf_wire.specs.CloseFrame.{frame_of}
-use Rattle.cf_wire.specs.Stages.{stage_after}
-use Rattle.cf_wire.specs.declared.end.Stage.TheVariants.{Unflushed, Over}
-use Rattle.cf_wire.specs.declared.end.WireEnd.TheVariants as wire
 
 -- ---- whether the connection can write
 
@@ -46,17 +42,6 @@ text_never conn s h x is = absurd (cc (sym (while_active conn.state (write_activ
 pub close_active : (conn : Connection) (f : Option (FrameCode × List ℕ)) → can_write conn.state ≡ true
     → write_step conn (close f) ≡ close_step conn f
 close_active conn f h = while_active conn.state (close_step conn f) h
-
--- the error of what a connection is asked to write that can't
-pub unwritable : (state : WebSocketState) → can_write state ≡ false → (r : Result Effect FrameError)
-    → (x : FrameError) × (after_check (check_can_write state) r ≡ Err x) × (IsIo (of_frame x) → ⊥)
-    × (stage_after (of_frame x) (Unflushed None) ≡ Over wire.StreamFault)
-unwritable State.Active h r = absurd (cc h)
-unwritable State.ClosedByUs h r = (frame.Protocol SendAfterClosing, refl, (λ no. no), refl)
-unwritable State.ClosedByPeer h r = (frame.Protocol SendAfterClosing, refl, (λ no. no), refl)
-unwritable State.CloseAcknowledged h r = (frame.Protocol SendAfterClosing, refl, (λ no. no), refl)
-unwritable State.Failed h r = (frame.Protocol SendAfterClosing, refl, (λ no. no), refl)
-unwritable State.Terminated h r = (frame.AlreadyClosed, refl, (λ no. no), refl)
 
 -- ---- whether a close may be sent
 

@@ -3,14 +3,14 @@ use Rattle.std.proofs.Common.{◌≡◌, ◌∙◌, ℕ, ◌+◌, ◌-◌, lengt
 use Rattle.std.proofs.Common.{None, Some, Result, Ok, Err, OnOk, IfErr, true, false, ◌⊎◌, inl, inr, refl, sym, ap}
 use Rattle.std.proofs.Common.{subst, arith}
 use Rattle.websocket.specs.CloseCode.{close_code_of, is_allowed}
-use Rattle.websocket.specs.Connection.{Effect, can_write, write_active}
+use Rattle.websocket.specs.Connection.{Effect, can_write}
 use Rattle.websocket.specs.declared.error.Error.{Error as FrameError}
 use Rattle.websocket.specs.declared.error.Error.TheVariants as frame
 use Rattle.websocket.specs.declared.error.ProtocolError.TheVariants.{InvalidCloseCode}
 use Rattle.tungstenite.specs.Connection.{write_step, close_step}
 use Rattle.tungstenite.specs.Content as content
 use Rattle.tungstenite.specs.Content.{Content, text}
-use Rattle.tungstenite.specs.Failure.{IsIo, WriteFails, of_frame}
+use Rattle.tungstenite.specs.Failure.{IsIo, WriteFails}
 use Rattle.tungstenite.specs.Socket.{Socket, Reads, Writes, Flushed, content_of}
 use Rattle.tungstenite.specs.declared.message.Message.{Message}
 use Rattle.tungstenite.specs.declared.error.Error.{Error}
@@ -25,7 +25,7 @@ use Rattle.cf_wire.specs.Stages.{settled, Halts, Stops}
 use Rattle.cf_wire.specs.Turn.{Event, heard, passed, ended, rejected, failed, none, sent, refused, flushed, tried}
 use Rattle.cf_wire.specs.Turn.{reads, moves, bytes, bytes_before, is_stop, most_reads, most_bytes, IsEmptied, Rests}
 use Rattle.cf_wire.specs.Turn.{IsUsedUp, EndFits, Reached, going, emptied, over, Fits, is_bad, is_signal, code_in}
-use Rattle.cf_wire.specs.Turn.{bad_message, Puts, IsCertain, Fails, Settles, Tells, TellsIf, FlushLeaves, Place, place, DeskDoes}
+use Rattle.cf_wire.specs.Turn.{bad_message, Puts, PutsOrKeeps, Fails, Settles, Tells, TellsIf, FlushLeaves, Place, place, DeskDoes}
 use Rattle.cf_wire.specs.Turn.{WireDoes, Did, Part, Turns, reached_by, read_in}
 use Rattle.cf_wire.specs.declared.end.Stage.{Stage}
 use Rattle.cf_wire.specs.declared.end.Stage.TheVariants.{Open, Unflushed, Over}
@@ -33,7 +33,7 @@ use Rattle.cf_wire.specs.declared.end.WireEnd.{WireEnd}
 use Rattle.cf_wire.specs.declared.end.WireEnd.TheVariants as wire
 use Rattle.cf_wire.specs.declared.end.TurnEnd.{TurnEnd}
 use Rattle.cf_wire.specs.declared.end.TurnEnd.TheVariants as turn
-use Rattle.cf_wire.proofs.Closing.{text_never, close_active, unwritable, close_never, close_barred}
+use Rattle.cf_wire.proofs.Closing.{text_never, close_active, close_never, close_barred}
 
 -- ---- counts
 
@@ -256,7 +256,7 @@ module _ {S : Type 0} where
 
   pub settles_text : (contents : S → Option (List ℕ)) (old mid new : Socket S) (s : List ℕ) (m : Message)
       (stage : Stage) (answer : Result (Unit {0}) Error)
-      → content_of m ≡ text s → can_write old.conn.state ≡ true
+      → content_of m ≡ text s
       → OnOk answer (Writes contents old mid (write_step old.conn (content_of m))) → OnOk answer (mid.output ≡ [])
       → IfErr answer (WriteFails (write_step old.conn (content_of m)))
       → IfErr answer (λ e. e ≡ WriteBufferFull → mid ≡ old)
@@ -264,35 +264,22 @@ module _ {S : Type 0} where
       → IfErr answer (λ e. e ≡ OutOfMemory → mid ≡ old)
       → new ≡ mid → OnOk answer (stage ≡ settled None) → IfErr answer (λ e. stage ≡ stage_after e (Unflushed None))
       → Settles contents old (Text s) new stage
-  settles_text contents old mid new s m stage (Ok u) is writes puts empty fault full io memory same ok err =
+  settles_text contents old mid new s m stage (Ok u) is puts empty fault full io memory same ok err =
       settles contents old mid new (Text s) stage (Ok u) (rw is at puts) empty fault same ok err
-  settles_text contents old mid new s m stage (Err e) is writes puts empty fault full io memory same ok err =
+  settles_text contents old mid new s m stage (Err e) is puts empty fault full io memory same ok err =
       let why : WriteFails (write_step old.conn (text s)) e = rw is at fault in
       settles contents old mid new (Text s) stage (Err e) puts empty (
         why,
         (λ (h : IsIo e). rw is at (io h)),
         memory,
-        λ _. certain (write_step old.conn (text s)) e old mid why (text_never old.conn s writes) full memory,
+        λ writes. certain (write_step old.conn (text s)) e old mid why (text_never old.conn s writes) full memory,
       ) same ok err
 
-  -- a text isn't asked for once the connection can't write: the protocol would refuse it
-  pub settles_unasked : (contents : S → Option (List ℕ)) (old new : Socket S) (s : List ℕ) (stage : Stage)
-      → can_write old.conn.state ≡ false → new ≡ old → stage ≡ Over wire.StreamFault
-      → Settles contents old (Text s) new stage
-  settles_unasked contents old new s stage spent same ends =
-      let why = unwritable old.conn.state spent (write_active old.conn (text s)) in
-      inr (
-        of_frame why.0,
-        (
-          (
-            inr (inr (why.0, why.1, refl)),
-            (λ (h : IsIo (of_frame why.0)). absurd (why.2 h)),
-            (λ _. same),
-            λ _. inr same,
-          ),
-          ends ∙ sym why.3,
-        ),
-      )
+  -- nothing is asked of a connection that can't write
+  pub settles_unasked : (contents : S → Option (List ℕ)) (old new : Socket S) (out : Out) (stage : Stage)
+      → new ≡ old → stage ≡ Over wire.StreamFault → Settles contents old out new stage
+  settles_unasked contents old new out stage same ends =
+      inr (WriteBufferFull, ((inl refl, (λ (h : IsIo WriteBufferFull). absurd h), (λ _. same), λ _. inr same), ends))
 
   -- ---- a close
 
@@ -337,11 +324,6 @@ module _ {S : Type 0} where
     λ _. inr same,
   )
 
-  never_certain : (old : Socket S) (code : ℕ) {A : Type 0} → can_write old.conn.state ≡ false
-      → IsCertain old (Close code) → A
-  never_certain old code spent (inl h) = absurd (cc h)
-  never_certain old code spent (inr h) = absurd (cc (sym h, spent))
-
   -- once the connection can't write
   pub puts_spent : (contents : S → Option (List ℕ)) (old new : Socket S) (code : ℕ)
       (f : Option (CloseCode × List ℕ)) (answer : Result (Unit {0}) Error) → f ≡ frame_of code
@@ -357,8 +339,27 @@ module _ {S : Type 0} where
       → IfErr answer (λ e. e ≡ OutOfMemory → new ≡ old)
       → IfErr answer (Fails contents old (Close code) new)
   fails_spent contents old new code f (Ok u) is spent fault io memory = tt
-  fails_spent contents old new code f (Err e) is spent fault io memory =
-      (rw is at fault, (λ (h : IsIo e). rw is at (io h)), memory, never_certain old code spent)
+  fails_spent contents old new code f (Err e) is spent fault io memory = (
+    rw is at fault,
+    (λ (h : IsIo e). rw is at (io h)),
+    memory,
+    λ writes. absurd (cc (sym writes, spent)),
+  )
+
+  kept_either : (contents : S → Option (List ℕ)) (old new : Socket S) (out : Out) (e : Error)
+      → Fails contents old out new e → IsIo e ⊎ (new ≡ old) → PutsOrKeeps contents old out new
+  kept_either contents old new out e fails (inl io) = inl (fails.1 io)
+  kept_either contents old new out e fails (inr same) = inr same
+
+  kept_by : (contents : S → Option (List ℕ)) (old new : Socket S) (out : Out) (e : Error) → Fails contents old out new e
+      → can_write old.conn.state ≡ true → PutsOrKeeps contents old out new
+  kept_by contents old new out e fails sure = kept_either contents old new out e fails (fails.3 sure)
+
+  -- of a connection that can write, whatever was answered
+  pub kept_of : (contents : S → Option (List ℕ)) (old new : Socket S) (out : Out) (stage : Stage)
+      → Settles contents old out new stage → can_write old.conn.state ≡ true → PutsOrKeeps contents old out new
+  kept_of contents old new out stage (inl lands) sure = inl lands.0
+  kept_of contents old new out stage (inr fails) sure = kept_by contents old new out fails.0 fails.1.0 sure
 
   pub tells_close : (contents : S → Option (List ℕ)) (old new : Socket S) (code : ℕ)
       (answer : Result (Unit {0}) Error)
@@ -531,13 +532,14 @@ module _ {D S : Type 0} (hears : D → List ℕ → D → Type 0) (gives : D →
   out_open d e v w out is h (inr fails) opened = absurd (open_not_after w.stage fails.0 (close_in out) opened fails.1.1)
 
   pub out_stopped : (d e : D) (v w : WireState S) (out : Out) (end : TurnEnd) → v.stage ≡ Open → gives d (Some out) e
-      → Settles contents v.socket out w.socket w.stage
+      → Settles contents v.socket out w.socket w.stage → PutsOrKeeps contents v.socket out w.socket
       → Stops end w.stage → Part hears gives ready remaining contents 0 0 0 0 (over end) (place d v) (place e w)
-  out_stopped d e v w out end is h (inl lands) stops =
+  out_stopped d e v w out end is h (inl lands) kept stops =
       turns_one (sent out) 0 0 0 0 (over end) _ _ h (is, lands) (omega arith) (omega arith) (omega arith)
       (inl (omega arith)) (fits_settled end (close_in out) w.stage (sent out) [] (ready e) lands.2 stops)
-  out_stopped d e v w out end is h (inr fails) stops =
-      turns_one (refused out fails.0) 0 0 0 0 (over end) _ _ h (is, fails.1) (omega arith) (omega arith) (omega arith)
+  out_stopped d e v w out end is h (inr fails) kept stops =
+      turns_one (refused out fails.0) 0 0 0 0 (over end) _ _ h (is, fails.1, kept) (omega arith) (omega arith)
+      (omega arith)
       (inl (omega arith)) (fits_stop end w.stage (refused out fails.0) [] (ready e) stops.0 refl)
 
   -- ---- by what was flushed

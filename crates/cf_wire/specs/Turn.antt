@@ -173,18 +173,18 @@ module _ {S : Type 0} where
   Lands contents old out new stage =
       Puts contents old out new × (new.output ≡ []) × (stage ≡ settled (close_in out))
 
-  -- of what it is certain what it leaves, whatever the socket answers: of a text, and of a close while the connection can
-  -- write. Once a read has failed only `close` still writes, and of one that finds its output full `tungstenite` says
-  -- nothing
-  abbrev pub IsCertain : Socket S → Out → Type 0
-  IsCertain old out = (close_in out ≡ None) ⊎ (can_write old.conn.state ≡ true)
-
   -- it answered this error: where the stream failed the frame is on it or waits, and refused memory changed nothing;
-  -- nor did any other error, where that is certain
+  -- nor did any other error while the connection could write. Once a read has failed only `close` still writes, and of
+  -- one that finds its output full `tungstenite` says nothing
   abbrev pub Fails : (S → Option (List ℕ)) → Socket S → Out → Socket S → Error → Type 0
   Fails contents old out new e =
       WriteFails (step_of old.conn out) e × (IsIo e → Puts contents old out new) × (e ≡ OutOfMemory → new ≡ old)
-      × (IsCertain old out → IsIo e ⊎ (new ≡ old))
+      × (can_write old.conn.state ≡ true → IsIo e ⊎ (new ≡ old))
+
+  -- whatever it answered to what the desk gave: the frame is on the stream or waits there, behind what waited before, or
+  -- nothing changed
+  abbrev pub PutsOrKeeps : (S → Option (List ℕ)) → Socket S → Out → Socket S → Type 0
+  PutsOrKeeps contents old out new = Puts contents old out new ⊎ (new ≡ old)
 
   abbrev pub Refuses : (S → Option (List ℕ)) → Socket S → Out → Socket S → Error → Stage → Type 0
   Refuses contents old out new e stage =
@@ -256,7 +256,8 @@ module _ {D S : Type 0} where
         × (w.stage ≡ stage_after e Open)
     WireDoes none v w = (v.stage ≡ Open) × (w ≡ v)
     WireDoes (sent o) v w = (v.stage ≡ Open) × Lands contents v.socket o w.socket w.stage
-    WireDoes (refused o e) v w = (v.stage ≡ Open) × Refuses contents v.socket o w.socket e w.stage
+    WireDoes (refused o e) v w =
+        (v.stage ≡ Open) × Refuses contents v.socket o w.socket e w.stage × PutsOrKeeps contents v.socket o w.socket
     WireDoes flushed v w =
         (close : Option ℕ) × (v.stage ≡ Unflushed close) × Flushed contents v.socket w.socket
         × (w.socket.output ≡ [])

@@ -5,7 +5,7 @@ ghost use Rattle.tungstenite.specs.Socket.{Flushed, Reads, Socket, close_of};
 ghost use Rattle.cf_queue.specs.declared.queue.Out.TheVariants as out;
 ghost use Rattle.cf_wire.specs.CloseFrame.{frame_of};
 ghost use Rattle.cf_wire.specs.Stages.{is_unflushed, is_over, waits_by, end_by, stage_after, settled, told, code_of_cause, code_of_fault, Agrees, Halts, Stops};
-ghost use Rattle.cf_wire.specs.Turn.{Part, Turns, Puts, Fails, Settles, Tells, TellsIf, FlushLeaves, place, read_in, reached_by, reached_emptied, code_in};
+ghost use Rattle.cf_wire.specs.Turn.{Part, Turns, Puts, PutsOrKeeps, Fails, Settles, Tells, TellsIf, FlushLeaves, place, read_in, reached_by, reached_emptied, code_in};
 
 use crate::desk::Desk;
 use crate::end::{Stage, TurnEnd, WireEnd};
@@ -284,11 +284,16 @@ impl<S: Read + Write + Drop> Wire<S> {
         }
     }
 
+    /// Sends what the desk gave. Nothing is asked of a connection that can't write.
     fn put(&mut self, out: Out) -> Result<(), TurnEnd>
         ensures put { Settles S.contents self.old.socket out self.new.socket self.new.stage }
+        ensures kept { PutsOrKeeps S.contents self.old.socket out self.new.socket }
         ensures open { OnOk result (self.new.stage ≡ Stage.Open) }
         ensures ends { IfErr result (λ end. Stops end self.new.stage) }
     {
+        if !self.socket.can_write() {
+            return Err(self.stop(WireEnd::StreamFault));
+        }
         match out {
             Out::Text(text) => self.send(text),
             Out::Close(code) => self.shut(code),
@@ -301,9 +306,6 @@ impl<S: Read + Write + Drop> Wire<S> {
         ensures open { OnOk result (self.new.stage ≡ Stage.Open) }
         ensures ends { IfErr result (λ end. Stops end self.new.stage) }
     {
-        if !self.socket.can_write() {
-            return Err(self.stop(WireEnd::StreamFault));
-        }
         let answer = self.socket.send(Message::Text(text));
         self.settle(answer, None)
     }
