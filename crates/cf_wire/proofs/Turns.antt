@@ -2,12 +2,19 @@
 use Rattle.std.proofs.Common.{◌≡◌, ◌∙◌, ℕ, ◌+◌, ◌-◌, length, ◌≤◌, ◌<◌, List, [], ◌∷◌, ◌++◌, Bool, if◌then◌else◌, Option}
 use Rattle.std.proofs.Common.{None, Some, Result, Ok, Err, OnOk, IfErr, true, false, ◌⊎◌, inl, inr, refl, sym, ap}
 use Rattle.std.proofs.Common.{subst, arith}
+use Rattle.websocket.specs.CloseCode.{close_code_of, is_allowed}
+use Rattle.websocket.specs.Connection.{Effect, can_write}
+use Rattle.websocket.specs.declared.error.Error.{Error as FrameError}
+use Rattle.websocket.specs.declared.error.Error.TheVariants as frame
+use Rattle.websocket.specs.declared.error.ProtocolError.TheVariants.{InvalidCloseCode}
 use Rattle.tungstenite.specs.Connection.{write_step, close_step}
-use Rattle.tungstenite.specs.Content.{text}
+use Rattle.tungstenite.specs.Content as content
+use Rattle.tungstenite.specs.Content.{Content, text}
 use Rattle.tungstenite.specs.Failure.{IsIo, WriteFails}
 use Rattle.tungstenite.specs.Socket.{Socket, Reads, Writes, Flushed, content_of}
 use Rattle.tungstenite.specs.declared.message.Message.{Message}
 use Rattle.tungstenite.specs.declared.error.Error.{Error}
+use Rattle.tungstenite.specs.declared.error.Error.TheVariants as fault
 use Rattle.tungstenite.specs.declared.error.Error.TheVariants.{WriteBufferFull, OutOfMemory}
 use Rattle.websocket.specs.declared.protocol.frame.coding.CloseCode.{CloseCode}
 use Rattle.cf_queue.specs.declared.queue.Out.{Out}
@@ -18,13 +25,15 @@ use Rattle.cf_wire.specs.Stages.{settled, Halts, Stops}
 use Rattle.cf_wire.specs.Turn.{Event, heard, passed, ended, rejected, failed, none, sent, refused, flushed, tried}
 use Rattle.cf_wire.specs.Turn.{reads, moves, bytes, bytes_before, is_stop, most_reads, most_bytes, IsEmptied, Rests}
 use Rattle.cf_wire.specs.Turn.{IsUsedUp, EndFits, Reached, going, emptied, over, Fits, is_bad, is_signal, code_in}
-use Rattle.cf_wire.specs.Turn.{bad_message, Puts, Fails, Settles, Tells, TellsIf, FlushLeaves, Place, place, DeskDoes}
+use Rattle.cf_wire.specs.Turn.{bad_message, Puts, PutsOrKeeps, Fails, Settles, Tells, TellsIf, FlushLeaves, Place, place, DeskDoes}
 use Rattle.cf_wire.specs.Turn.{WireDoes, Did, Part, Turns, reached_by, read_in}
 use Rattle.cf_wire.specs.declared.end.Stage.{Stage}
 use Rattle.cf_wire.specs.declared.end.Stage.TheVariants.{Open, Unflushed, Over}
 use Rattle.cf_wire.specs.declared.end.WireEnd.{WireEnd}
+use Rattle.cf_wire.specs.declared.end.WireEnd.TheVariants as wire
 use Rattle.cf_wire.specs.declared.end.TurnEnd.{TurnEnd}
 use Rattle.cf_wire.specs.declared.end.TurnEnd.TheVariants as turn
+use Rattle.cf_wire.proofs.Closing.{text_never, close_active, close_never, close_barred}
 
 -- ---- counts
 
@@ -235,6 +244,16 @@ module _ {S : Type 0} where
       let P : Socket S → Type 0 = λ x. Fails contents old out x e in
       inr (e, (subst P (sym same) fails, err))
 
+  -- why a write failed that the protocol doesn't refuse: the stream failed, or nothing changed
+  certain : (step : Result Effect FrameError) (e : Error) (old new : Socket S) → WriteFails step e
+      → ((x : FrameError) → step ≡ Err x → ⊥) → (e ≡ WriteBufferFull → new ≡ old) → (e ≡ OutOfMemory → new ≡ old)
+      → IsIo e ⊎ (new ≡ old)
+  certain step e old new (inl is) never full memory = inr (full is)
+  certain step (fault.Io cause) old new (inr (inl outside)) never full memory = inl tt
+  certain step fault.OutOfMemory old new (inr (inl outside)) never full memory = inr (memory refl)
+  certain step e old new (inr (inl outside)) never full memory = absurd outside
+  certain step e old new (inr (inr why)) never full memory = absurd (never why.0 why.1)
+
   pub settles_text : (contents : S → Option (List ℕ)) (old mid new : Socket S) (s : List ℕ) (m : Message)
       (stage : Stage) (answer : Result (Unit {0}) Error)
       → content_of m ≡ text s
@@ -248,37 +267,107 @@ module _ {S : Type 0} where
   settles_text contents old mid new s m stage (Ok u) is puts empty fault full io memory same ok err =
       settles contents old mid new (Text s) stage (Ok u) (rw is at puts) empty fault same ok err
   settles_text contents old mid new s m stage (Err e) is puts empty fault full io memory same ok err =
-      settles contents old mid new (Text s) stage (Err e) puts empty
-      (rw is at fault, (λ (h : IsIo e). rw is at (io h)), (λ _. full), memory) same ok err
+      let why : WriteFails (write_step old.conn (text s)) e = rw is at fault in
+      settles contents old mid new (Text s) stage (Err e) puts empty (
+        why,
+        (λ (h : IsIo e). rw is at (io h)),
+        memory,
+        λ writes. certain (write_step old.conn (text s)) e old mid why (text_never old.conn s writes) full memory,
+      ) same ok err
 
-  pub settles_close : (contents : S → Option (List ℕ)) (old mid new : Socket S) (code : ℕ)
-      (f : Option (CloseCode × List ℕ)) (stage : Stage) (answer : Result (Unit {0}) Error)
-      → f ≡ frame_of code
-      → OnOk answer (Writes contents old mid (close_step old.conn f)) → OnOk answer (mid.output ≡ [])
-      → IfErr answer (WriteFails (close_step old.conn f))
-      → IfErr answer (λ e. IsIo e → Writes contents old mid (close_step old.conn f))
-      → IfErr answer (λ e. e ≡ OutOfMemory → mid ≡ old)
-      → new ≡ mid → OnOk answer (stage ≡ settled (Some code))
-      → IfErr answer (λ e. stage ≡ stage_after e (Unflushed (Some code)))
-      → Settles contents old (Close code) new stage
-  settles_close contents old mid new code f stage (Ok u) is puts empty fault io memory same ok err =
-      settles contents old mid new (Close code) stage (Ok u) (rw is at puts) empty fault same ok err
-  settles_close contents old mid new code f stage (Err e) is puts empty fault io memory same ok err =
-      settles contents old mid new (Close code) stage (Err e) puts empty
-      (rw is at fault, (λ (h : IsIo e). rw is at (io h)), (λ (h : Some code ≡ None). absurd (cc h)), memory) same ok
-      err
+  -- nothing is asked of a connection that can't write
+  pub settles_unasked : (contents : S → Option (List ℕ)) (old new : Socket S) (out : Out) (stage : Stage)
+      → new ≡ old → stage ≡ Over wire.StreamFault → Settles contents old out new stage
+  settles_unasked contents old new out stage same ends =
+      inr (WriteBufferFull, ((inl refl, (λ (h : IsIo WriteBufferFull). absurd h), (λ _. same), λ _. inr same), ends))
 
-  pub tells_close : (contents : S → Option (List ℕ)) (old new : Socket S) (code : ℕ) (f : Option (CloseCode × List ℕ))
-      (answer : Result (Unit {0}) Error)
-      → f ≡ frame_of code
-      → OnOk answer (Writes contents old new (close_step old.conn f)) → OnOk answer (new.output ≡ [])
+  -- ---- a close
+
+  pub puts_close : (contents : S → Option (List ℕ)) (old new : Socket S) (code : ℕ) (what : Content)
+      (answer : Result (Unit {0}) Error) → what ≡ content.close (frame_of code) → can_write old.conn.state ≡ true
+      → OnOk answer (Writes contents old new (write_step old.conn what))
+      → OnOk answer (Puts contents old (Close code) new)
+  puts_close contents old new code what (Ok u) is writes puts =
+      let W : Content → Type 0 = λ k. Writes contents old new (write_step old.conn k) in
+      subst (Writes contents old new) (close_active old.conn (frame_of code) writes) (subst W is puts)
+  puts_close contents old new code what (Err e) is writes puts = tt
+
+  pub fails_close : (contents : S → Option (List ℕ)) (old new : Socket S) (code : ℕ) (what : Content)
+      (answer : Result (Unit {0}) Error) → what ≡ content.close (frame_of code) → can_write old.conn.state ≡ true
+      → is_allowed (close_code_of code) ≡ true
+      → IfErr answer (WriteFails (write_step old.conn what))
+      → IfErr answer (λ e. e ≡ WriteBufferFull → new ≡ old)
+      → IfErr answer (λ e. IsIo e → Writes contents old new (write_step old.conn what))
+      → IfErr answer (λ e. e ≡ OutOfMemory → new ≡ old)
+      → IfErr answer (Fails contents old (Close code) new)
+  fails_close contents old new code what (Ok u) is writes allowed fault full io memory = tt
+  fails_close contents old new code what (Err e) is writes allowed fault full io memory =
+      let step : Result Effect FrameError = close_step old.conn (frame_of code) in
+      let same : write_step old.conn what ≡ step =
+      ap (write_step old.conn) is ∙ close_active old.conn (frame_of code) writes in
+      let F : Result Effect FrameError → Type 0 = λ r. WriteFails r e in
+      let why : WriteFails step e = subst F same fault in (
+        why,
+        (λ (h : IsIo e). subst (Writes contents old new) same (io h)),
+        memory,
+        λ _. certain step e old new why (close_never old.conn code writes allowed) full memory,
+      )
+
+  -- a code that may not be sent: the protocol would refuse it
+  pub fails_unasked : (contents : S → Option (List ℕ)) (old new : Socket S) (code : ℕ)
+      → can_write old.conn.state ≡ true → is_allowed (close_code_of code) ≡ false → new ≡ old
+      → Fails contents old (Close code) new (fault.Protocol (InvalidCloseCode code))
+  fails_unasked contents old new code writes barred same = (
+    inr (inr (frame.Protocol (InvalidCloseCode code), close_barred old.conn code writes barred, refl)),
+    (λ h. absurd h),
+    (λ _. same),
+    λ _. inr same,
+  )
+
+  -- once the connection can't write
+  pub puts_spent : (contents : S → Option (List ℕ)) (old new : Socket S) (code : ℕ)
+      (f : Option (CloseCode × List ℕ)) (answer : Result (Unit {0}) Error) → f ≡ frame_of code
+      → OnOk answer (Writes contents old new (close_step old.conn f)) → OnOk answer (Puts contents old (Close code) new)
+  puts_spent contents old new code f (Ok u) is puts = rw is at puts
+  puts_spent contents old new code f (Err e) is puts = tt
+
+  pub fails_spent : (contents : S → Option (List ℕ)) (old new : Socket S) (code : ℕ)
+      (f : Option (CloseCode × List ℕ)) (answer : Result (Unit {0}) Error)
+      → f ≡ frame_of code → can_write old.conn.state ≡ false
       → IfErr answer (WriteFails (close_step old.conn f))
       → IfErr answer (λ e. IsIo e → Writes contents old new (close_step old.conn f))
       → IfErr answer (λ e. e ≡ OutOfMemory → new ≡ old)
+      → IfErr answer (Fails contents old (Close code) new)
+  fails_spent contents old new code f (Ok u) is spent fault io memory = tt
+  fails_spent contents old new code f (Err e) is spent fault io memory = (
+    rw is at fault,
+    (λ (h : IsIo e). rw is at (io h)),
+    memory,
+    λ writes. absurd (cc (sym writes, spent)),
+  )
+
+  kept_either : (contents : S → Option (List ℕ)) (old new : Socket S) (out : Out) (e : Error)
+      → Fails contents old out new e → IsIo e ⊎ (new ≡ old) → PutsOrKeeps contents old out new
+  kept_either contents old new out e fails (inl io) = inl (fails.1 io)
+  kept_either contents old new out e fails (inr same) = inr same
+
+  kept_by : (contents : S → Option (List ℕ)) (old new : Socket S) (out : Out) (e : Error) → Fails contents old out new e
+      → can_write old.conn.state ≡ true → PutsOrKeeps contents old out new
+  kept_by contents old new out e fails sure = kept_either contents old new out e fails (fails.3 sure)
+
+  -- of a connection that can write, whatever was answered
+  pub kept_of : (contents : S → Option (List ℕ)) (old new : Socket S) (out : Out) (stage : Stage)
+      → Settles contents old out new stage → can_write old.conn.state ≡ true → PutsOrKeeps contents old out new
+  kept_of contents old new out stage (inl lands) sure = inl lands.0
+  kept_of contents old new out stage (inr fails) sure = kept_by contents old new out fails.0 fails.1.0 sure
+
+  pub tells_close : (contents : S → Option (List ℕ)) (old new : Socket S) (code : ℕ)
+      (answer : Result (Unit {0}) Error)
+      → OnOk answer (Puts contents old (Close code) new) → OnOk answer (new.output ≡ [])
+      → IfErr answer (Fails contents old (Close code) new)
       → Tells contents old code new
-  tells_close contents old new code f (Ok u) is puts empty fault io memory = inl (rw is at puts, empty)
-  tells_close contents old new code f (Err e) is puts empty fault io memory =
-      inr (e, (rw is at fault, (λ (h : IsIo e). rw is at (io h)), (λ (h : Some code ≡ None). absurd (cc h)), memory))
+  tells_close contents old new code (Ok u) puts empty fails = inl (puts, empty)
+  tells_close contents old new code (Err e) puts empty fails = inr (e, fails)
 
 -- a close's code and reason
 abbrev pub framed : CloseCode → List ℕ → Option (CloseCode × List ℕ)
@@ -443,13 +532,14 @@ module _ {D S : Type 0} (hears : D → List ℕ → D → Type 0) (gives : D →
   out_open d e v w out is h (inr fails) opened = absurd (open_not_after w.stage fails.0 (close_in out) opened fails.1.1)
 
   pub out_stopped : (d e : D) (v w : WireState S) (out : Out) (end : TurnEnd) → v.stage ≡ Open → gives d (Some out) e
-      → Settles contents v.socket out w.socket w.stage
+      → Settles contents v.socket out w.socket w.stage → PutsOrKeeps contents v.socket out w.socket
       → Stops end w.stage → Part hears gives ready remaining contents 0 0 0 0 (over end) (place d v) (place e w)
-  out_stopped d e v w out end is h (inl lands) stops =
+  out_stopped d e v w out end is h (inl lands) kept stops =
       turns_one (sent out) 0 0 0 0 (over end) _ _ h (is, lands) (omega arith) (omega arith) (omega arith)
       (inl (omega arith)) (fits_settled end (close_in out) w.stage (sent out) [] (ready e) lands.2 stops)
-  out_stopped d e v w out end is h (inr fails) stops =
-      turns_one (refused out fails.0) 0 0 0 0 (over end) _ _ h (is, fails.1) (omega arith) (omega arith) (omega arith)
+  out_stopped d e v w out end is h (inr fails) kept stops =
+      turns_one (refused out fails.0) 0 0 0 0 (over end) _ _ h (is, fails.1, kept) (omega arith) (omega arith)
+      (omega arith)
       (inl (omega arith)) (fits_stop end w.stage (refused out fails.0) [] (ready e) stops.0 refl)
 
   -- ---- by what was flushed

@@ -2,7 +2,7 @@
 -- (RFC 6455: the messages of a WebSocket, its pings, pongs and close.)
 use Rattle.std.specs.Prelude.{◌≡◌, ◌≤◌, ◌<◌, ◌⊎◌, ℕ, ◌+◌, ◌-◌, List, [], ◌∷◌, length, Bool, true, false, Option, None}
 use Rattle.std.specs.Prelude.{Some, Result, Ok, Err, ⊤}
-use Rattle.websocket.specs.Connection.{Connection, Effect}
+use Rattle.websocket.specs.Connection.{Connection, Effect, can_write}
 use Rattle.websocket.specs.declared.error.Error.{Error as FrameError}
 use Rattle.tungstenite.specs.CloseCode.{close_code_number}
 use Rattle.tungstenite.specs.Connection.{write_step, close_step}
@@ -12,7 +12,7 @@ use Rattle.tungstenite.specs.Failure.{IsIo, WriteFails}
 use Rattle.tungstenite.specs.Socket.{Socket, Reads, Writes, Flushed, content_of}
 use Rattle.tungstenite.specs.declared.message.Message.{Message}
 use Rattle.tungstenite.specs.declared.error.Error.{Error}
-use Rattle.tungstenite.specs.declared.error.Error.TheVariants.{Capacity, WriteBufferFull, OutOfMemory}
+use Rattle.tungstenite.specs.declared.error.Error.TheVariants.{Capacity, OutOfMemory}
 use Rattle.cf_protocol.specs.Codes.{close_code_of}
 use Rattle.cf_protocol.specs.declared.codes.CloseCode.TheVariants.{BadRequest}
 use Rattle.cf_queue.specs.declared.queue.Out.{Out}
@@ -173,12 +173,18 @@ module _ {S : Type 0} where
   Lands contents old out new stage =
       Puts contents old out new × (new.output ≡ []) × (stage ≡ settled (close_in out))
 
-  -- it answered this error: where the stream failed the frame waits, and refused memory, or an output that a text
-  -- found full, changed nothing
+  -- it answered this error: where the stream failed the frame is on it or waits, and refused memory changed nothing;
+  -- nor did any other error while the connection could write. Once a read has failed only `close` still writes, and of
+  -- one that finds its output full `tungstenite` says nothing
   abbrev pub Fails : (S → Option (List ℕ)) → Socket S → Out → Socket S → Error → Type 0
   Fails contents old out new e =
-      WriteFails (step_of old.conn out) e × (IsIo e → Puts contents old out new)
-      × (close_in out ≡ None → e ≡ WriteBufferFull → new ≡ old) × (e ≡ OutOfMemory → new ≡ old)
+      WriteFails (step_of old.conn out) e × (IsIo e → Puts contents old out new) × (e ≡ OutOfMemory → new ≡ old)
+      × (can_write old.conn.state ≡ true → IsIo e ⊎ (new ≡ old))
+
+  -- whatever it answered to what the desk gave: the frame is on the stream or waits there, behind what waited before, or
+  -- nothing changed
+  abbrev pub PutsOrKeeps : (S → Option (List ℕ)) → Socket S → Out → Socket S → Type 0
+  PutsOrKeeps contents old out new = Puts contents old out new ⊎ (new ≡ old)
 
   abbrev pub Refuses : (S → Option (List ℕ)) → Socket S → Out → Socket S → Error → Stage → Type 0
   Refuses contents old out new e stage =
@@ -250,7 +256,8 @@ module _ {D S : Type 0} where
         × (w.stage ≡ stage_after e Open)
     WireDoes none v w = (v.stage ≡ Open) × (w ≡ v)
     WireDoes (sent o) v w = (v.stage ≡ Open) × Lands contents v.socket o w.socket w.stage
-    WireDoes (refused o e) v w = (v.stage ≡ Open) × Refuses contents v.socket o w.socket e w.stage
+    WireDoes (refused o e) v w =
+        (v.stage ≡ Open) × Refuses contents v.socket o w.socket e w.stage × PutsOrKeeps contents v.socket o w.socket
     WireDoes flushed v w =
         (close : Option ℕ) × (v.stage ≡ Unflushed close) × Flushed contents v.socket w.socket
         × (w.socket.output ≡ [])

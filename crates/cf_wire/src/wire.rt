@@ -1,11 +1,11 @@
 //! A WebSocket, turn by turn.
-ghost use Rattle.std.specs.Prelude.{◌≡◌, ◌<◌, true, false, None, Some, Ok, OnOk, IfErr};
+ghost use Rattle.std.specs.Prelude.{◌≡◌, ◌<◌, [], true, false, None, Some, Ok, OnOk, IfErr};
 ghost use Rattle.tungstenite.specs.Content.{close};
 ghost use Rattle.tungstenite.specs.Socket.{Flushed, Reads, Socket, close_of};
 ghost use Rattle.cf_queue.specs.declared.queue.Out.TheVariants as out;
 ghost use Rattle.cf_wire.specs.CloseFrame.{frame_of};
 ghost use Rattle.cf_wire.specs.Stages.{is_unflushed, is_over, waits_by, end_by, stage_after, settled, told, code_of_cause, code_of_fault, Agrees, Halts, Stops};
-ghost use Rattle.cf_wire.specs.Turn.{Part, Turns, Settles, Tells, TellsIf, FlushLeaves, place, read_in, reached_by, reached_emptied, code_in};
+ghost use Rattle.cf_wire.specs.Turn.{Part, Turns, Puts, PutsOrKeeps, Fails, Settles, Tells, TellsIf, FlushLeaves, place, read_in, reached_by, reached_emptied, code_in};
 
 use crate::desk::Desk;
 use crate::end::{Stage, TurnEnd, WireEnd};
@@ -284,11 +284,16 @@ impl<S: Read + Write + Drop> Wire<S> {
         }
     }
 
+    /// Sends what the desk gave. Nothing is asked of a connection that can't write.
     fn put(&mut self, out: Out) -> Result<(), TurnEnd>
         ensures put { Settles S.contents self.old.socket out self.new.socket self.new.stage }
+        ensures kept { PutsOrKeeps S.contents self.old.socket out self.new.socket }
         ensures open { OnOk result (self.new.stage ≡ Stage.Open) }
         ensures ends { IfErr result (λ end. Stops end self.new.stage) }
     {
+        if !self.socket.can_write() {
+            return Err(self.stop(WireEnd::StreamFault));
+        }
         match out {
             Out::Text(text) => self.send(text),
             Out::Close(code) => self.shut(code),
@@ -311,8 +316,27 @@ impl<S: Read + Write + Drop> Wire<S> {
         ensures open { OnOk result (self.new.stage ≡ Stage.Open) }
         ensures ends { IfErr result (λ end. Stops end self.new.stage) }
     {
-        let answer = self.socket.close(Some(frame_of(code)));
+        let answer = self.close(code);
         self.settle(answer, Some(code))
+    }
+
+    /// Asks the socket for a close: by `send`, which changes nothing if it finds the output full, as long as the connection
+    /// can write. Once a read has failed only `close` still writes.
+    fn close(&mut self, code: u16) -> Result<(), Error>
+        ensures puts { OnOk result
+            (Puts S.contents self.old.socket (out.Close code) self.new.socket) }
+        ensures empty { OnOk result (self.new.socket.output ≡ []) }
+        ensures fails { IfErr result
+            (Fails S.contents self.old.socket (out.Close code) self.new.socket) }
+    {
+        let frame = frame_of(code);
+        if !self.socket.can_write() {
+            return self.socket.close(Some(frame));
+        }
+        if !frame.code.is_allowed() {
+            return Err(Error::Protocol(ProtocolError::InvalidCloseCode(code)));
+        }
+        self.socket.send(Message::Close(Some(frame)))
     }
 
     /// A read failed. The peer is told if it made the error, as far as its socket takes it.
@@ -340,7 +364,7 @@ impl<S: Read + Write + Drop> Wire<S> {
     fn tell(&mut self, code: u16)
         ensures { Tells S.contents self.old.socket code self.new.socket }
     {
-        let answer = self.socket.close(Some(frame_of(code)));
+        let answer = self.close(code);
         drop(answer);
     }
 

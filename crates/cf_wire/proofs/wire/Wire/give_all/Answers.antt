@@ -16,7 +16,7 @@ pub returns-in-Err-clause-turns : goal.returns-in-Err-clause-turns
 returns-in-Err-clause-turns g c =
     turns_then _ _ _ _ _ _ _ _ _ _ _ _ _ _ _ _ _ _ _ c.loop-index.invariant.turns
     (out_stopped _ _ _ _ _ _ _ _ _ c.in-Some.out c.in-Err.end c.loop-index.invariant.opened c.in-Some.ensures
-    c.put.ensures.put c.in-Err.ensures.ends) (omega arith) (omega arith)
+    c.put.ensures.put c.put.ensures.kept c.in-Err.ensures.ends) (omega arith) (omega arith)
 
 pub returns-clause-turns : goal.returns-clause-turns
 returns-clause-turns g c = turns_sent_much _ _ _ _ _ _ _ _ _ _ c.loop-index.invariant.turns (omega arith) refl
