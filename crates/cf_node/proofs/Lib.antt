@@ -1,4 +1,5 @@
 pub mod Carrying
+pub mod Comparing
 pub mod Delivering
 pub mod Growing
 pub mod Handing

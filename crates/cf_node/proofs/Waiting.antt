@@ -1,5 +1,5 @@
 -- What is taken for a client as the hub names its session.
-use Rattle.std.proofs.Common.{◌≡◌, ℕ, false, Option, Some, None, option_map, List, [], refl, sym}
+use Rattle.std.proofs.Common.{◌≡◌, ◌∙◌, ℕ, Bool, false, Option, Some, None, option_map, List, [], refl, sym}
 use Rattle.std.proofs.lemmas.List.{append-nil}
 use Rattle.cf_queue.specs.declared.queue.Out.{Out}
 use Rattle.cf_hub.specs.Hub.{Node, attached_at, waits_in}
@@ -24,8 +24,12 @@ takes_nothing k h xs = record {
 }
 
 -- nothing waits any more if no more may
-pub all_is_taken : (t : Taken) → leaves_more t ≡ false → t ≡ All
+all_is_taken : (t : Taken) → leaves_more t ≡ false → t ≡ All
 all_is_taken All e = refl
 all_is_taken Limit e = absurd (cc)
 all_is_taken Memory e = absurd (cc)
 all_is_taken Blocked e = absurd (cc)
+
+-- who owes exactly what may still wait has taken all once nothing is owed
+pub owes_none : (owed : Bool) (t : Taken) → owed ≡ leaves_more t → owed ≡ false → t ≡ All
+owes_none owed t is none = all_is_taken t (sym is ∙ none)

@@ -1,5 +1,5 @@
-use Rattle.std.proofs.Common.{◌∙◌, sym}
-use Rattle.cf_node.proofs.Waiting.{all_is_taken, takes_nothing}
+use Rattle.std.proofs.Common.{arith}
+use Rattle.cf_node.proofs.Waiting.{owes_none, takes_nothing}
 use Rattle.cf_node.proofs.desk.SessionDesk.take_waiting.Goals as goal
 
 -- nothing is taken for another
@@ -9,9 +9,9 @@ returns-then-not-is_of-clause-takes g c =
 
 -- the session is the client's own
 pub returns-clause-other : goal.returns-clause-other
-returns-clause-other g c = λ other. absurd (other (c.is_of.ensures.0 c.if-not-is_of.false))
+returns-clause-other g c = λ other. absurd (grind arith)
 
 -- what may wait is owed
 pub returns-clause-all : goal.returns-clause-all
 returns-clause-all g c =
-    λ none. c.take_for-taken.ensures.all (all_is_taken c.take_for-taken.result (sym c.leaves_more-self.ensures ∙ none))
+    λ none. c.take_for-taken.ensures.all (owes_none _ c.take_for-taken.result (assumption) none)
