@@ -1,4 +1,4 @@
-use Rattle.std.proofs.Common.{◌≡◌, true, inr, subst}
+use Rattle.std.proofs.Common.{◌≡◌, true, inr, rules, subst}
 use Rattle.websocket.specs.Connection.{can_write}
 use Rattle.cf_queue.specs.declared.queue.Out.TheVariants.{Text, Close}
 use Rattle.cf_wire.specs.Stages.{WireState}
@@ -13,7 +13,7 @@ pub returns-then-not-can_write-clause-kept : goal.returns-then-not-can_write-cla
 returns-then-not-can_write-clause-kept g c = inr c.stop.ensures.same
 
 pub returns-in-Text-clause-put : goal.returns-in-Text-clause-put
-returns-in-Text-clause-put g c = rw c.in-Text.is c.send.ensures.put
+returns-in-Text-clause-put g c = rw c.in-Text.is (search rules depth 1)
 
 pub returns-in-Text-clause-kept : goal.returns-in-Text-clause-kept
 returns-in-Text-clause-kept g c =
