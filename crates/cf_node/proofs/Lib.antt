@@ -4,4 +4,5 @@ pub mod Delivering
 pub mod Growing
 pub mod Handing
 pub mod Owning
+pub mod Refusing
 pub mod Waiting

@@ -1,12 +1,14 @@
 -- What is done in a node's hub for a client: it befalls the client's own session, and no other. (This project's own
 -- profile.)
-use Rattle.std.specs.Prelude.{◌≡◌, ℕ, Option, Some, None, List, option_map}
+use Rattle.std.specs.Prelude.{◌≡◌, ℕ, true, false, Option, Some, None, List, option_map}
 use Rattle.cf_protocol.specs.Position.{Position}
+use Rattle.cf_protocol.specs.declared.codes.ErrorCode.{ErrorCode}
+use Rattle.cf_protocol.specs.declared.codes.ErrorCode.TheVariants as error
 use Rattle.cf_queue.specs.OutQueue.{Text, Close}
 use Rattle.cf_queue.specs.declared.queue.Out.{Out}
 use Rattle.cf_model.specs.Sessions.{checks, closes_now, leaves, push}
 use Rattle.cf_hub.specs.Finish.{FinishesAt}
-use Rattle.cf_hub.specs.Hub.{Begins, Meets, Node, One, Opens, OthersStay, attached_at, sub_at}
+use Rattle.cf_hub.specs.Hub.{Begins, IsFull, IsOpenWith, Meets, NoRoom, Node, One, Opens, OthersStay, attached_at, sub_at}
 use Rattle.cf_hub.specs.Session.{badge_ponged}
 use Rattle.cf_hub.specs.WantOfMemory.{OrCloses}
 use Rattle.cf_hub.specs.Wordings.{plain}
@@ -66,3 +68,17 @@ OpensOwn (Some k) user now old new = Opens k user now old new
 abbrev pub SparesOthers : Option ℕ → Node → Node → Type 0
 SparesOthers None old new = (j : ℕ) → attached_at new j ≡ attached_at old j
 SparesOthers (Some k) old new = OthersStay k old new
+
+-- with which code it gets no session: 106 where the node has no room for one more, else 100
+abbrev pub FailsToAttach : Node → ErrorCode → Type 0
+FailsToAttach h error.Internal = Unit {0}
+FailsToAttach h error.LimitExceeded = NoRoom h
+FailsToAttach h other = ⊥
+
+-- With which code no subscription of its session begins: 105 where that has the channel already, 106 where it hasn't,
+-- and there is no room for one more; else 100.
+abbrev pub FailsToBegin : Option ℕ → (channel : List ℕ) → Node → ErrorCode → Type 0
+FailsToBegin own c h error.Internal = Unit {0}
+FailsToBegin (Some k) c h error.AlreadySubscribed = IsOpenWith (λ off. off ≡ false) k c h
+FailsToBegin (Some k) c h error.LimitExceeded = IsOpenWith (λ off. off ≡ true) k c h × IsFull k h
+FailsToBegin own c h other = ⊥

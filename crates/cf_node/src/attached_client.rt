@@ -1,5 +1,5 @@
 //! What the node keeps of a client, and what is done in the hub for it, while the hub is lent.
-ghost use Rattle.std.specs.Prelude.{◌≡◌, ◌↔◌, ◌≤◌, IfOk, IfSome, IsTrue, None, OnErr, OnOk, Some, is_some, string_bytes, true};
+ghost use Rattle.std.specs.Prelude.{◌≡◌, ◌↔◌, ◌≤◌, IfErr, IfOk, IfSome, IsTrue, None, OnErr, OnOk, Some, is_some, string_bytes, true};
 ghost use Rattle.cf_model.specs.Sessions.{reads};
 ghost use Rattle.cf_hub.specs.Checked.{check_answer, stand_of};
 ghost use Rattle.cf_hub.specs.Hub.{One, OthersStay, Ticks, attached_at, queued_in, sub_at};
@@ -8,7 +8,7 @@ ghost use Rattle.cf_hub.specs.Wordings.{reading};
 ghost use Rattle.cf_dispatch.specs.Batch.{TakesBatch, most_at_once};
 ghost use Rattle.cf_dispatch.specs.Standing.{looked};
 ghost use Rattle.cf_node.specs.Desk.{TakesOwn};
-ghost use Rattle.cf_node.specs.Own.{BeginsOwn, Checks, Closes, Finishes, Goes, Leaves, MovesOwn, OpensOwn, Pongs, Says, SparesOthers, ToOwn};
+ghost use Rattle.cf_node.specs.Own.{BeginsOwn, Checks, Closes, FailsToAttach, FailsToBegin, Finishes, Goes, Leaves, MovesOwn, OpensOwn, Pongs, Says, SparesOthers, ToOwn};
 ghost use Rattle.cf_node_hub.specs.Asking.{Answers, IsAskedFrom};
 ghost use Rattle.cf_node_hub.specs.Histories.{RepliesHistory};
 ghost use Rattle.cf_node_hub.specs.Told.{IsReply};
@@ -149,6 +149,7 @@ impl<N: Naming> AttachedClient<N> {
             hub.old.node hub.new.node) }
         ensures err { OnErr result (SparesOthers self.new.standing.number hub.old.node
             hub.new.node) }
+        ensures code { IfErr result (FailsToAttach hub.old.node) }
     {
         match user.clone() {
             Ok(kept) => self.user = kept,
@@ -182,6 +183,8 @@ impl<N: Naming> AttachedClient<N> {
         ensures ok { OnOk result (BeginsOwn self.old.standing.number (string_bytes channel) id since
             hub.old.node hub.new.node) }
         ensures err { OnErr result (SparesOthers None hub.old.node hub.new.node) }
+        ensures code { IfErr result (FailsToBegin self.old.standing.number (string_bytes channel)
+            hub.old.node) }
     {
         let Some(number) = self.standing.number() else {
             return Err(ErrorCode::Internal);
@@ -396,6 +399,7 @@ impl<'a, N: Naming> LockedHub<'a, N> {
             self.old.node self.new.node) }
         ensures err { OnErr result (SparesOthers client.new.standing.number self.old.node
             self.new.node) }
+        ensures code { IfErr result (FailsToAttach self.old.node) }
     {
         client.attach(&mut self.hub, alloc, user, now)
     }
@@ -412,6 +416,8 @@ impl<'a, N: Naming> LockedHub<'a, N> {
         ensures ok { OnOk result (BeginsOwn client.old.standing.number (string_bytes channel) id
             since self.old.node self.new.node) }
         ensures err { OnErr result (SparesOthers None self.old.node self.new.node) }
+        ensures code { IfErr result (FailsToBegin client.old.standing.number (string_bytes channel)
+            self.old.node) }
     {
         client.begin(&mut self.hub, words, channel, id, since)
     }

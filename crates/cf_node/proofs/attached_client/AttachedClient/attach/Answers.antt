@@ -1,7 +1,8 @@
 use Rattle.std.proofs.Common.{ap, refl}
-use Rattle.std.specs.Prelude.{string_bytes}
+use Rattle.std.specs.Prelude.{Err, string_bytes}
 use Rattle.cf_dispatch.specs.Standing.{Stands}
 use Rattle.cf_node.proofs.Owning.{opens_own, spares_all, spares_others}
+use Rattle.cf_node.proofs.Refusing.{fails_to_attach}
 use Rattle.cf_node.proofs.attached_client.AttachedClient.attach.Goals as goal
 
 -- nothing was done in the hub
@@ -31,3 +32,14 @@ returns-in-Ok-clone-clause-ok g c =
     opens_own c.attach-2.new.self.number c.in-Ok-attach.number (string_bytes c.args.user) c.args.now
     c.args.hub.now.node c.attach.new.self.node (ap (λ (s : Stands). s.number) c.attach-2.ensures)
     c.in-Ok-attach.ensures.opens
+
+-- a refusal is told by its code
+pub returns-in-Err-attach-clause-code : goal.returns-in-Err-attach-clause-code
+returns-in-Err-attach-clause-code g c =
+    let said = c.in-Err-attach.ensures in
+    fails_to_attach c.args.hub.now.node c.in-Err-attach.refusal c.hub_error.result c.hub_error.ensures said.refusals
+    (λ is. said.too_many.0 (ap Err is))
+
+-- as is want of memory
+pub returns-in-Err-clone-clause-code : goal.returns-in-Err-clone-clause-code
+returns-in-Err-clone-clause-code g c = tt
