@@ -18,6 +18,10 @@ const PUSH: u64 = 128;
 // So many counts are kept for each node. Channels whose names fall on one share it.
 const BUCKETS: usize = 4_096;
 
+// So many counts lie on one line of a processor's cache. Those that different threads write lie on lines of their own, so that none
+// fetches a line anew for what another one wrote there.
+const LINE: usize = 8;
+
 /// What a publication of so many bytes costs that goes to so many clients.
 pub(crate) fn cost_of(bytes: usize, clients: u64) -> u64 {
     clients.saturating_mul(PUSH.saturating_add(bytes as u64))
@@ -36,9 +40,16 @@ pub(crate) fn may_publish(text: &str) -> bool {
 pub struct Reach {
     // By node and bucket.
     counts: Vec<AtomicU64>,
-    // How many publications the broker has accepted, and, by node, how many were brought to its hub.
-    accepted: AtomicU64,
-    brought: Vec<AtomicU64>,
+    // Each on a line of its own: how many publications the broker has accepted, and, by node, how many were brought to its hub.
+    written: Vec<AtomicU64>,
+}
+
+// Where it lies how many publications the broker has accepted.
+const ACCEPTED: usize = LINE;
+
+// Where it lies how many were brought to a node's hub.
+fn brought_at(node: usize) -> usize {
+    node.saturating_add(2).saturating_mul(LINE)
 }
 
 impl Reach {
@@ -46,19 +57,21 @@ impl Reach {
     pub fn new(alloc: Global, nodes: u8) -> Result<Reach, AllocError> {
         Ok(Reach {
             counts: zeros(alloc, BUCKETS.saturating_mul(usize::from(nodes)))?,
-            accepted: AtomicU64::new(0),
-            brought: zeros(alloc, usize::from(nodes))?,
+            written: zeros(alloc, brought_at(usize::from(nodes)))?,
         })
     }
 
     /// The broker has accepted a publication. How many it has accepted with that.
     pub(crate) fn count_accepted(&self) -> u64 {
-        self.accepted.fetch_add(1, Ordering::SeqCst).wrapping_add(1)
+        match self.written.get(ACCEPTED) {
+            Some(count) => count.fetch_add(1, Ordering::SeqCst).wrapping_add(1),
+            None => 0,
+        }
     }
 
     /// How many publications were brought to a node's hub.
     pub(crate) fn brought(&self, node: usize) -> u64 {
-        match self.brought.get(node) {
+        match self.written.get(brought_at(node)) {
             Some(count) => count.load(Ordering::SeqCst),
             None => 0,
         }
@@ -66,12 +79,14 @@ impl Reach {
 
     /// A publication in a channel whose name falls into this bucket was brought to a node's hub, and went to so many of its clients.
     pub(crate) fn keep_reach(&self, node: u8, bucket: usize, clients: u32) {
-        if let Some(count) = self.brought.get(usize::from(node)) {
+        if let Some(count) = self.written.get(brought_at(usize::from(node))) {
             count.fetch_add(1, Ordering::SeqCst);
         }
         let at = usize::from(node).saturating_mul(BUCKETS);
         if let Some(count) = self.counts.get(at.saturating_add(bucket)) {
-            count.store(clients as u64, Ordering::Relaxed);
+            if count.load(Ordering::Relaxed) != clients as u64 {
+                count.store(clients as u64, Ordering::Relaxed);
+            }
         }
     }
 

@@ -95,6 +95,13 @@ fn lives(turned: u64, now: u64) -> bool
     now.saturating_sub(turned) <= SECONDS_FOR_TURN
 }
 
+// Keeps a value. One that stands there isn't written anew, so that the other worker, which reads it, needn't fetch it anew.
+fn keep(place: &AtomicU64, value: u64) {
+    if place.load(Ordering::SeqCst) != value {
+        place.store(value, Ordering::SeqCst);
+    }
+}
+
 impl<N: Naming> Shared<N> {
     /// The hub of a node of this number, at this start of the program, with no session yet, beside what it has seen of the logs.
     pub(crate) fn new(
@@ -118,7 +125,7 @@ impl<N: Naming> Shared<N> {
 
     /// The dispatcher takes a turn at this moment.
     pub(crate) fn keep_turn(&self, now: u64) {
-        self.turned_at.store(now, Ordering::SeqCst);
+        keep(&self.turned_at, now);
     }
 
     /// Whether the dispatcher has turned within two seconds.
@@ -151,8 +158,11 @@ impl<N: Naming> Shared<N> {
         }
     }
 
-    /// The hub for the IO loop, before whom the dispatcher gives way.
+    /// The hub for the IO loop, before whom the dispatcher gives way if the loop has to wait for it.
     pub(crate) fn hub<R: Wait>(&self, rt: &R) -> LockedHub<'_, N> {
+        if let Some(hub) = self.hub.try_lock() {
+            return LockedHub::new(hub);
+        }
         self.wanted.store(1, Ordering::SeqCst);
         let hub = self.hub.lock(rt);
         self.wanted.store(0, Ordering::SeqCst);
@@ -161,13 +171,13 @@ impl<N: Naming> Shared<N> {
 
     /// The IO loop has sent what waited in the hub, as far as the sockets took it.
     pub(crate) fn catch_up(&self) {
-        self.behind.store(0, Ordering::SeqCst);
+        keep(&self.behind, 0);
     }
 
     /// A publication of so many bytes was pushed to so many clients' queues in the hub. Where it is a
     /// large one, its readers are left some time for it, a millisecond for each 32,768 bytes begun.
     pub(crate) fn count_brought(&self, count: u32, bytes: usize) {
-        self.met.store(count as u64, Ordering::SeqCst);
+        keep(&self.met, count as u64);
         if count == 0 {
             return;
         }
