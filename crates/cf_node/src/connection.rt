@@ -216,10 +216,16 @@ impl<'a, B: Backend> Open<'a, B> {
         }
     }
 
-    // The wire is spent. What was gathered for the client, its close too, may still wait for the socket.
+    // The wire is spent. What was gathered for the client, its close too, may still wait for the socket. Once all is written, a
+    // client whose end was read has nothing more to say, and isn't waited for.
     fn leaves(&mut self) -> Turned {
         if self.wire.stream().is_drained() {
-            return Turned::Leaves;
+            let is_at_end = self.wire.stream().stream().is_at_end();
+            return if is_at_end {
+                Turned::Over
+            } else {
+                Turned::Leaves
+            };
         }
         self.desk.handler.stop();
         Turned::Idle

@@ -76,12 +76,21 @@ impl Leaving {
         }
     }
 
-    // All is written: the client is told so, and its own end is waited for.
+    // All is written: the client is told so, unless its end has come by now, and that is waited for.
     fn sees_off(&mut self) -> Turned {
-        if !self.is_shut && self.stream.stream().shut().is_err() {
+        let turned = self.reads_on();
+        if self.is_shut || turned == Turned::Over {
+            return turned;
+        }
+        if self.stream.stream().shut().is_err() {
             return Turned::Over;
         }
         self.is_shut = true;
+        turned
+    }
+
+    // What the client still sends is read and passed over, up to its end.
+    fn reads_on(&mut self) -> Turned {
         let mut chunk = [0u8; 4096];
         for _ in 0..MOST_READS {
             match self.stream.read(&mut chunk) {

@@ -20,6 +20,8 @@ pub(crate) struct Socket {
     readable: bool,
     // The peer sends no more, so that only a read tells the end.
     ended: bool,
+    // A read has told the end.
+    is_at_end: bool,
 }
 
 impl Socket {
@@ -31,6 +33,7 @@ impl Socket {
             given: 0,
             readable: true,
             ended: false,
+            is_at_end: false,
         }
     }
 
@@ -38,6 +41,11 @@ impl Socket {
     pub(crate) fn notice(&mut self, readable: bool, ended: bool) {
         self.readable = self.readable || readable || ended;
         self.ended = self.ended || ended;
+    }
+
+    /// Whether all was read that the peer sent, up to its end.
+    pub(crate) fn is_at_end(&self) -> bool {
+        self.is_at_end
     }
 
     /// Tells the peer that nothing more is written.
@@ -71,6 +79,7 @@ impl Socket {
         }
         match self.stream.read(room) {
             Ok(count) => {
+                self.is_at_end = count == 0;
                 if count < room.len() && !self.ended {
                     self.readable = false;
                 }
