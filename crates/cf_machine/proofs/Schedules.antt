@@ -1,3 +1,4 @@
+-- A schedule is a loose run of its lines, and what one event more makes of a run and of its trace.
 use Rattle.std.proofs.Common.{◌≡◌, ℕ, suc, ◌+◌, List, [], ◌∷◌, ◌++◌, length, refl, sym, ap, ◌∙◌, append_assoc, arith}
 use Rattle.std.proofs.Common.{append-nil}
 use Rattle.cf_machine.specs.Config.{Config}

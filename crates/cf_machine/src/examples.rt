@@ -4,7 +4,14 @@ ghost use Rattle.cf_machine.specs.Config.{Config};
 ghost use Rattle.cf_machine.specs.LooseRun.{Happening, lines};
 ghost use Rattle.cf_machine.specs.StreamSafety.{Safe};
 ghost use Rattle.cf_machine.specs.Trace.{Published, Subscribed};
-ghost use Rattle.cf_machine.specs.Examples.{ann, as_lines, asks_again, asks_alone, bob, both_are_subscribed, breaks_first, buffered_gap, buffered_reordering, delivery_after_node_restart, first_publication, gap_ends_subscription, keeping, late_but_there, leave_and_return, leaves_first, lists_and_refusals, lost, new_epoch_after_restart, news, no_epoch_yet, place, plain, position_check, pub_line, recovered, shown, slow_consumer, take, tells_again, tells_lost, tells_pub, tells_recovered, tells_sub, told_by, too_much, two_breaks, two_come};
+ghost use Rattle.cf_machine.specs.Examples.{ann, as_lines, asks_again, asks_alone, bob, both_are_subscribed};
+ghost use Rattle.cf_machine.specs.Examples.{breaks_first, buffered_gap, buffered_reordering};
+ghost use Rattle.cf_machine.specs.Examples.{delivery_after_node_restart, first_publication, gap_ends_subscription};
+ghost use Rattle.cf_machine.specs.Examples.{keeping, late_but_there, leave_and_return, leaves_first};
+ghost use Rattle.cf_machine.specs.Examples.{lists_and_refusals, lost, new_epoch_after_restart, news, no_epoch_yet};
+ghost use Rattle.cf_machine.specs.Examples.{place, plain, position_check, pub_line, recovered, shown, slow_consumer};
+ghost use Rattle.cf_machine.specs.Examples.{take, tells_again, tells_lost, tells_pub, tells_recovered, tells_sub};
+ghost use Rattle.cf_machine.specs.Examples.{told_by, too_much, two_breaks, two_come};
 
 /// What the interval machine's clients are told in schedules that show each of its rules. The push of a body of 1,048,525
 /// bytes to the channel `c` has 1,048,576 bytes, the most that wait for one client.

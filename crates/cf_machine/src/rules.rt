@@ -5,7 +5,17 @@ ghost use Rattle.cf_model.specs.Streams.{read_of};
 ghost use Rattle.cf_machine.specs.Event.{Connect, PublishBy};
 ghost use Rattle.cf_machine.specs.ClientLink.{ClientLink};
 ghost use Rattle.cf_machine.specs.Refusals.{has_no_room};
-ghost use Rattle.cf_machine.specs.RuleExamples.{already_subscribed, at_last_offset, bad_channel, barred, channel_128, channel_129, check_after_delivery, check_of_another_epoch, check_without_stream, delivery_to_one_node, epoch_after_read, epoch_before_read, epoch_while_live, epochs_in_order, first_colon, first_places, forget_before_recovery, fresh_again, known_while_buffered, last_offset, leaves_refused, leaves_waiting, list_after_trim, list_opens, long_text, next_id, no_such_publication, node_that_is_not_there, not_ready, not_recovered, of_a, permission_denied, publish_elsewhere, put_opens, reading_from, refused_names, reply_at_0, restart_of_one_node, shown_from, stream_of_301, trim_above, two_nodes, unknown_channel, with_channels};
+ghost use Rattle.cf_machine.specs.RuleExamples.{already_subscribed, at_last_offset, bad_channel, barred, channel_128};
+ghost use Rattle.cf_machine.specs.RuleExamples.{channel_129, check_after_delivery, check_of_another_epoch};
+ghost use Rattle.cf_machine.specs.RuleExamples.{check_without_stream, delivery_to_one_node, epoch_after_read};
+ghost use Rattle.cf_machine.specs.RuleExamples.{epoch_before_read, epoch_while_live, epochs_in_order, first_colon};
+ghost use Rattle.cf_machine.specs.RuleExamples.{first_places, forget_before_recovery, fresh_again};
+ghost use Rattle.cf_machine.specs.RuleExamples.{known_while_buffered, last_offset, leaves_refused, leaves_waiting};
+ghost use Rattle.cf_machine.specs.RuleExamples.{list_after_trim, list_opens, long_text, next_id, no_such_publication};
+ghost use Rattle.cf_machine.specs.RuleExamples.{node_that_is_not_there, not_ready, not_recovered, of_a};
+ghost use Rattle.cf_machine.specs.RuleExamples.{permission_denied, publish_elsewhere, put_opens, reading_from};
+ghost use Rattle.cf_machine.specs.RuleExamples.{refused_names, reply_at_0, restart_of_one_node, shown_from};
+ghost use Rattle.cf_machine.specs.RuleExamples.{stream_of_301, trim_above, two_nodes, unknown_channel, with_channels};
 ghost use Rattle.cf_machine.specs.Examples.{ann, as_lines, keeping, news, place, plain, shown};
 ghost use Rattle.cf_machine.specs.World.{World, rows_of, start};
 

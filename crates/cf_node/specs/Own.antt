@@ -8,7 +8,8 @@ use Rattle.cf_queue.specs.OutQueue.{Text, Close}
 use Rattle.cf_queue.specs.declared.queue.Out.{Out}
 use Rattle.cf_model.specs.Sessions.{checks, closes_now, leaves, push}
 use Rattle.cf_hub.specs.Finish.{FinishesAt}
-use Rattle.cf_hub.specs.Hub.{Begins, IsFull, IsOpenWith, Meets, NoRoom, Node, One, Opens, OthersStay, attached_at, sub_at}
+use Rattle.cf_hub.specs.Hub.{Begins, IsFull, IsOpenWith, Meets, NoRoom, Node, One, Opens, OthersStay}
+use Rattle.cf_hub.specs.Hub.{attached_at, sub_at}
 use Rattle.cf_hub.specs.Session.{badge_ponged}
 use Rattle.cf_hub.specs.WantOfMemory.{OrCloses}
 use Rattle.cf_hub.specs.Wordings.{plain}

@@ -96,9 +96,9 @@ fn lives(turned: u64, now: u64) -> bool
 }
 
 // Keeps a value. One that stands there isn't written anew, so that the other worker, which reads it, needn't fetch it anew.
-fn keep(place: &AtomicU64, value: u64) {
-    if place.load(Ordering::SeqCst) != value {
-        place.store(value, Ordering::SeqCst);
+fn keep(cell: &AtomicU64, value: u64) {
+    if cell.load(Ordering::SeqCst) != value {
+        cell.store(value, Ordering::SeqCst);
     }
 }
 

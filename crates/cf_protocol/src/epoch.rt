@@ -103,7 +103,7 @@ impl PartialEq for Epoch {
         ensures answers { result ≡ bytes_eq self.now other.now }
         ensures same { IsTrue result ↔ (self.now ≡ other.now) }
     {
-        self.as_str() == other.as_str()
+        self.bytes[..self.len as usize] == other.bytes[..other.len as usize]
     }
 }
 

@@ -1,3 +1,4 @@
+-- When a queue is slow for a text: if it is open and has no room for it.
 use Rattle.std.proofs.Common.{◌≡◌, ℕ, ◌+◌, ◌≤◌, ◌↔◌, Bool, IsTrue, true, false, List, length, IsErrOf, Err, arith}
 use Rattle.std.proofs.Common.{rules}
 use Rattle.cf_queue.specs.OutQueue.{OutQueue, weight, IsSlow}

@@ -25,8 +25,8 @@ use Rattle.cf_wire.specs.Stages.{settled, Halts, Stops}
 use Rattle.cf_wire.specs.Turn.{Event, heard, passed, ended, rejected, failed, none, sent, refused, flushed, tried}
 use Rattle.cf_wire.specs.Turn.{reads, moves, bytes, bytes_before, is_stop, most_reads, most_bytes, IsEmptied, Rests}
 use Rattle.cf_wire.specs.Turn.{IsUsedUp, EndFits, Reached, going, emptied, over, Fits, is_bad, is_signal, code_in}
-use Rattle.cf_wire.specs.Turn.{bad_message, Puts, PutsOrKeeps, Fails, Settles, Tells, TellsIf, FlushLeaves, Place, place, DeskDoes}
-use Rattle.cf_wire.specs.Turn.{WireDoes, Did, Part, Turns, reached_by, read_in}
+use Rattle.cf_wire.specs.Turn.{bad_message, step_of, Puts, PutsOrKeeps, Fails, SendFails, Sends, Settles, Tells, TellsIf, FlushLeaves}
+use Rattle.cf_wire.specs.Turn.{Place, place, DeskDoes, WireDoes, Did, Part, Turns, reached_by, read_in}
 use Rattle.cf_wire.specs.declared.end.Stage.{Stage}
 use Rattle.cf_wire.specs.declared.end.Stage.TheVariants.{Open, Unflushed, Over}
 use Rattle.cf_wire.specs.declared.end.WireEnd.{WireEnd}
@@ -254,26 +254,49 @@ module _ {S : Type 0} where
   certain step e old new (inr (inl outside)) never full memory = absurd outside
   certain step e old new (inr (inr why)) never full memory = absurd (never why.0 why.1)
 
-  pub settles_text : (contents : S → Option (List ℕ)) (old mid new : Socket S) (s : List ℕ) (m : Message)
+  pub sends : (contents : S → Option (List ℕ)) (old mid new : Socket S) (what : Content) (close : Option ℕ)
       (stage : Stage) (answer : Result (Unit {0}) Error)
-      → content_of m ≡ text s
-      → OnOk answer (Writes contents old mid (write_step old.conn (content_of m))) → OnOk answer (mid.output ≡ [])
-      → IfErr answer (WriteFails (write_step old.conn (content_of m)))
+      → OnOk answer (Writes contents old mid (write_step old.conn what)) → OnOk answer (mid.output ≡ [])
+      → IfErr answer (WriteFails (write_step old.conn what))
       → IfErr answer (λ e. e ≡ WriteBufferFull → mid ≡ old)
-      → IfErr answer (λ e. IsIo e → Writes contents old mid (write_step old.conn (content_of m)))
+      → IfErr answer (λ e. IsIo e → Writes contents old mid (write_step old.conn what))
       → IfErr answer (λ e. e ≡ OutOfMemory → mid ≡ old)
-      → new ≡ mid → OnOk answer (stage ≡ settled None) → IfErr answer (λ e. stage ≡ stage_after e (Unflushed None))
-      → Settles contents old (Text s) new stage
-  settles_text contents old mid new s m stage (Ok u) is puts empty fault full io memory same ok err =
-      settles contents old mid new (Text s) stage (Ok u) (rw is at puts) empty fault same ok err
-  settles_text contents old mid new s m stage (Err e) is puts empty fault full io memory same ok err =
-      let why : WriteFails (write_step old.conn (text s)) e = rw is at fault in
-      settles contents old mid new (Text s) stage (Err e) puts empty (
-        why,
-        (λ (h : IsIo e). rw is at (io h)),
-        memory,
-        λ writes. certain (write_step old.conn (text s)) e old mid why (text_never old.conn s writes) full memory,
-      ) same ok err
+      → new ≡ mid → OnOk answer (stage ≡ settled close) → IfErr answer (λ e. stage ≡ stage_after e (Unflushed close))
+      → Sends contents old what close new stage
+  sends contents old mid new what close stage (Ok u) puts empty fault full io memory same ok err =
+      let P : Socket S → Type 0 = λ x. Writes contents old x (write_step old.conn what) in
+      inl (subst P (sym same) puts, ap (λ (s : Socket S). s.output) same ∙ empty, ok)
+  sends contents old mid new what close stage (Err e) puts empty fault full io memory same ok err =
+      let P : Socket S → Type 0 = λ x. SendFails contents old (write_step old.conn what) x e in
+      inr (e, subst P (sym same) (fault, full, io, memory), err)
+
+  -- by what was asked for, where the protocol doesn't refuse that
+  settles_sent : (contents : S → Option (List ℕ)) (old new : Socket S) (what : Content) (out : Out) (stage : Stage)
+      → write_step old.conn what ≡ step_of old.conn out
+      → (can_write old.conn.state ≡ true → (x : FrameError) → step_of old.conn out ≡ Err x → ⊥)
+      → Sends contents old what (close_in out) new stage → Settles contents old out new stage
+  settles_sent contents old new what out stage same never (inl came) =
+      inl (subst (Writes contents old new) same came.0, came.1, came.2)
+  settles_sent contents old new what out stage same never (inr fails) =
+      let F : Result Effect FrameError → Type 0 = λ r. SendFails contents old r new fails.0 in
+      let why : F (step_of old.conn out) = subst F same fails.1 in
+      inr (
+        fails.0,
+        (
+          (
+            why.0,
+            why.2,
+            why.3,
+            λ writes. certain (step_of old.conn out) fails.0 old new why.0 (never writes) why.1 why.3,
+          ),
+          fails.2,
+        ),
+      )
+
+  pub settles_text : (contents : S → Option (List ℕ)) (old new : Socket S) (s : List ℕ) (what : Content)
+      (stage : Stage) → what ≡ text s → Sends contents old what None new stage → Settles contents old (Text s) new stage
+  settles_text contents old new s what stage is answered =
+      settles_sent contents old new what (Text s) stage (ap (write_step old.conn) is) (text_never old.conn s) answered
 
   -- nothing is asked of a connection that can't write
   pub settles_unasked : (contents : S → Option (List ℕ)) (old new : Socket S) (out : Out) (stage : Stage)
@@ -283,38 +306,18 @@ module _ {S : Type 0} where
 
   -- ---- a close
 
-  pub puts_close : (contents : S → Option (List ℕ)) (old new : Socket S) (code : ℕ) (what : Content)
-      (answer : Result (Unit {0}) Error) → what ≡ content.close (frame_of code) → can_write old.conn.state ≡ true
-      → OnOk answer (Writes contents old new (write_step old.conn what))
-      → OnOk answer (Puts contents old (Close code) new)
-  puts_close contents old new code what (Ok u) is writes puts =
-      let W : Content → Type 0 = λ k. Writes contents old new (write_step old.conn k) in
-      subst (Writes contents old new) (close_active old.conn (frame_of code) writes) (subst W is puts)
-  puts_close contents old new code what (Err e) is writes puts = tt
-
-  pub fails_close : (contents : S → Option (List ℕ)) (old new : Socket S) (code : ℕ) (what : Content)
-      (answer : Result (Unit {0}) Error) → what ≡ content.close (frame_of code) → can_write old.conn.state ≡ true
-      → is_allowed (close_code_of code) ≡ true
-      → IfErr answer (WriteFails (write_step old.conn what))
-      → IfErr answer (λ e. e ≡ WriteBufferFull → new ≡ old)
-      → IfErr answer (λ e. IsIo e → Writes contents old new (write_step old.conn what))
-      → IfErr answer (λ e. e ≡ OutOfMemory → new ≡ old)
-      → IfErr answer (Fails contents old (Close code) new)
-  fails_close contents old new code what (Ok u) is writes allowed fault full io memory = tt
-  fails_close contents old new code what (Err e) is writes allowed fault full io memory =
-      let step : Result Effect FrameError = close_step old.conn (frame_of code) in
-      let same : write_step old.conn what ≡ step =
+  pub settles_close : (contents : S → Option (List ℕ)) (old new : Socket S) (code : ℕ) (what : Content)
+      (stage : Stage) → what ≡ content.close (frame_of code) → can_write old.conn.state ≡ true
+      → is_allowed (close_code_of code) ≡ true → Sends contents old what (Some code) new stage
+      → Settles contents old (Close code) new stage
+  settles_close contents old new code what stage is writes allowed answered =
+      let same : write_step old.conn what ≡ close_step old.conn (frame_of code) =
       ap (write_step old.conn) is ∙ close_active old.conn (frame_of code) writes in
-      let F : Result Effect FrameError → Type 0 = λ r. WriteFails r e in
-      let why : WriteFails step e = subst F same fault in (
-        why,
-        (λ (h : IsIo e). subst (Writes contents old new) same (io h)),
-        memory,
-        λ _. certain step e old new why (close_never old.conn code writes allowed) full memory,
-      )
+      settles_sent contents old new what (Close code) stage same (λ _. close_never old.conn code writes allowed)
+      answered
 
   -- a code that may not be sent: the protocol would refuse it
-  pub fails_unasked : (contents : S → Option (List ℕ)) (old new : Socket S) (code : ℕ)
+  fails_unasked : (contents : S → Option (List ℕ)) (old new : Socket S) (code : ℕ)
       → can_write old.conn.state ≡ true → is_allowed (close_code_of code) ≡ false → new ≡ old
       → Fails contents old (Close code) new (fault.Protocol (InvalidCloseCode code))
   fails_unasked contents old new code writes barred same = (
@@ -323,6 +326,13 @@ module _ {S : Type 0} where
     (λ _. same),
     λ _. inr same,
   )
+
+  pub settles_barred : (contents : S → Option (List ℕ)) (old new : Socket S) (code : ℕ) (stage : Stage)
+      → can_write old.conn.state ≡ true → is_allowed (close_code_of code) ≡ false → new ≡ old
+      → stage ≡ stage_after (fault.Protocol (InvalidCloseCode code)) (Unflushed (Some code))
+      → Settles contents old (Close code) new stage
+  settles_barred contents old new code stage writes barred same ends =
+      inr (fault.Protocol (InvalidCloseCode code), (fails_unasked contents old new code writes barred same, ends))
 
   -- once the connection can't write
   pub puts_spent : (contents : S → Option (List ℕ)) (old new : Socket S) (code : ℕ)
@@ -361,13 +371,10 @@ module _ {S : Type 0} where
   kept_of contents old new out stage (inl lands) sure = inl lands.0
   kept_of contents old new out stage (inr fails) sure = kept_by contents old new out fails.0 fails.1.0 sure
 
-  pub tells_close : (contents : S → Option (List ℕ)) (old new : Socket S) (code : ℕ)
-      (answer : Result (Unit {0}) Error)
-      → OnOk answer (Puts contents old (Close code) new) → OnOk answer (new.output ≡ [])
-      → IfErr answer (Fails contents old (Close code) new)
-      → Tells contents old code new
-  tells_close contents old new code (Ok u) puts empty fails = inl (puts, empty)
-  tells_close contents old new code (Err e) puts empty fails = inr (e, fails)
+  pub tells_settled : (contents : S → Option (List ℕ)) (old new : Socket S) (code : ℕ) (stage : Stage)
+      → Settles contents old (Close code) new stage → Tells contents old code new
+  tells_settled contents old new code stage (inl lands) = inl (lands.0, lands.1)
+  tells_settled contents old new code stage (inr fails) = inr (fails.0, fails.1.0)
 
 -- a close's code and reason
 abbrev pub framed : CloseCode → List ℕ → Option (CloseCode × List ℕ)

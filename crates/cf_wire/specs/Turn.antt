@@ -12,7 +12,7 @@ use Rattle.tungstenite.specs.Failure.{IsIo, WriteFails}
 use Rattle.tungstenite.specs.Socket.{Socket, Reads, Writes, Flushed, content_of}
 use Rattle.tungstenite.specs.declared.message.Message.{Message}
 use Rattle.tungstenite.specs.declared.error.Error.{Error}
-use Rattle.tungstenite.specs.declared.error.Error.TheVariants.{Capacity, OutOfMemory}
+use Rattle.tungstenite.specs.declared.error.Error.TheVariants.{Capacity, OutOfMemory, WriteBufferFull}
 use Rattle.cf_protocol.specs.Codes.{close_code_of}
 use Rattle.cf_protocol.specs.declared.codes.CloseCode.TheVariants.{BadRequest}
 use Rattle.cf_queue.specs.declared.queue.Out.{Out}
@@ -168,6 +168,19 @@ module _ {S : Type 0} where
   abbrev pub Puts : (S → Option (List ℕ)) → Socket S → Out → Socket S → Type 0
   Puts contents old out new = Writes contents old new (step_of old.conn out)
 
+  -- what a `send` that answered this error left
+  abbrev pub SendFails : (S → Option (List ℕ)) → Socket S → Result Effect FrameError → Socket S → Error → Type 0
+  SendFails contents old step new e =
+      WriteFails step e × (e ≡ WriteBufferFull → new ≡ old) × (IsIo e → Writes contents old new step)
+      × (e ≡ OutOfMemory → new ≡ old)
+
+  -- a `send` of this message: it is on the stream, or the socket answered an error; and the stage behind it
+  abbrev pub Sends : (S → Option (List ℕ)) → Socket S → Content → Option ℕ → Socket S → Stage → Type 0
+  Sends contents old what close new stage =
+      (Writes contents old new (write_step old.conn what) × (new.output ≡ []) × (stage ≡ settled close))
+      ⊎ ((e : Error) × SendFails contents old (write_step old.conn what) new e
+      × (stage ≡ stage_after e (Unflushed close)))
+
   -- it answered Ok: the frame is on the stream
   abbrev pub Lands : (S → Option (List ℕ)) → Socket S → Out → Socket S → Stage → Type 0
   Lands contents old out new stage =
@@ -181,8 +194,8 @@ module _ {S : Type 0} where
       WriteFails (step_of old.conn out) e × (IsIo e → Puts contents old out new) × (e ≡ OutOfMemory → new ≡ old)
       × (can_write old.conn.state ≡ true → IsIo e ⊎ (new ≡ old))
 
-  -- whatever it answered to what the desk gave: the frame is on the stream or waits there, behind what waited before, or
-  -- nothing changed
+  -- whatever it answered to what the desk gave: the frame is on the stream or waits there, behind what waited before,
+  -- or nothing changed
   abbrev pub PutsOrKeeps : (S → Option (List ℕ)) → Socket S → Out → Socket S → Type 0
   PutsOrKeeps contents old out new = Puts contents old out new ⊎ (new ≡ old)
 
@@ -257,7 +270,8 @@ module _ {D S : Type 0} where
     WireDoes none v w = (v.stage ≡ Open) × (w ≡ v)
     WireDoes (sent o) v w = (v.stage ≡ Open) × Lands contents v.socket o w.socket w.stage
     WireDoes (refused o e) v w =
-        (v.stage ≡ Open) × Refuses contents v.socket o w.socket e w.stage × PutsOrKeeps contents v.socket o w.socket
+        (v.stage ≡ Open) × Refuses contents v.socket o w.socket e w.stage
+        × PutsOrKeeps contents v.socket o w.socket
     WireDoes flushed v w =
         (close : Option ℕ) × (v.stage ≡ Unflushed close) × Flushed contents v.socket w.socket
         × (w.socket.output ≡ [])

@@ -1,11 +1,11 @@
 //! A WebSocket, turn by turn.
 ghost use Rattle.std.specs.Prelude.{◌≡◌, ◌<◌, [], true, false, None, Some, Ok, OnOk, IfErr};
 ghost use Rattle.tungstenite.specs.Content.{close};
-ghost use Rattle.tungstenite.specs.Socket.{Flushed, Reads, Socket, close_of};
+ghost use Rattle.tungstenite.specs.Socket.{Flushed, Reads, Socket, close_of, content_of};
 ghost use Rattle.cf_queue.specs.declared.queue.Out.TheVariants as out;
 ghost use Rattle.cf_wire.specs.CloseFrame.{frame_of};
 ghost use Rattle.cf_wire.specs.Stages.{is_unflushed, is_over, waits_by, end_by, stage_after, settled, told, code_of_cause, code_of_fault, Agrees, Halts, Stops};
-ghost use Rattle.cf_wire.specs.Turn.{Part, Turns, Puts, PutsOrKeeps, Fails, Settles, Tells, TellsIf, FlushLeaves, place, read_in, reached_by, reached_emptied, code_in};
+ghost use Rattle.cf_wire.specs.Turn.{Part, Turns, PutsOrKeeps, Sends, Settles, Tells, TellsIf, FlushLeaves, place, read_in, reached_by, reached_emptied, code_in};
 
 use crate::desk::Desk;
 use crate::end::{Stage, TurnEnd, WireEnd};
@@ -295,48 +295,40 @@ impl<S: Read + Write + Drop> Wire<S> {
             return Err(self.stop(WireEnd::StreamFault));
         }
         match out {
-            Out::Text(text) => self.send(text),
+            Out::Text(text) => self.send(Message::Text(text), None),
             Out::Close(code) => self.shut(code),
         }
     }
 
-    fn send(&mut self, text: Utf8Bytes) -> Result<(), TurnEnd>
-        ensures put { Settles S.contents self.old.socket (out.Text text) self.new.socket
-            self.new.stage }
+    /// Sends a message, here alone, so that the compiler unfolds the socket's `send`.
+    fn send(&mut self, message: Message, close: Option<u16>) -> Result<(), TurnEnd>
+        ensures sent { Sends S.contents self.old.socket (content_of message) close
+            self.new.socket self.new.stage }
         ensures open { OnOk result (self.new.stage ≡ Stage.Open) }
         ensures ends { IfErr result (λ end. Stops end self.new.stage) }
     {
-        let answer = self.socket.send(Message::Text(text));
-        self.settle(answer, None)
+        let answer = self.socket.send(message);
+        self.settle(answer, close)
     }
 
+    /// Asks the socket for a close: by `send`, which changes nothing if it finds the output full, as long as the connection
+    /// can write. Once a read has failed only the socket's `close` still writes.
     fn shut(&mut self, code: u16) -> Result<(), TurnEnd>
         ensures put { Settles S.contents self.old.socket (out.Close code) self.new.socket
             self.new.stage }
         ensures open { OnOk result (self.new.stage ≡ Stage.Open) }
         ensures ends { IfErr result (λ end. Stops end self.new.stage) }
     {
-        let answer = self.close(code);
-        self.settle(answer, Some(code))
-    }
-
-    /// Asks the socket for a close: by `send`, which changes nothing if it finds the output full, as long as the connection
-    /// can write. Once a read has failed only `close` still writes.
-    fn close(&mut self, code: u16) -> Result<(), Error>
-        ensures puts { OnOk result
-            (Puts S.contents self.old.socket (out.Close code) self.new.socket) }
-        ensures empty { OnOk result (self.new.socket.output ≡ []) }
-        ensures fails { IfErr result
-            (Fails S.contents self.old.socket (out.Close code) self.new.socket) }
-    {
         let frame = frame_of(code);
         if !self.socket.can_write() {
-            return self.socket.close(Some(frame));
+            let answer = self.socket.close(Some(frame));
+            return self.settle(answer, Some(code));
         }
         if !frame.code.is_allowed() {
-            return Err(Error::Protocol(ProtocolError::InvalidCloseCode(code)));
+            let barred = Error::Protocol(ProtocolError::InvalidCloseCode(code));
+            return self.settle(Err(barred), Some(code));
         }
-        self.socket.send(Message::Close(Some(frame)))
+        self.send(Message::Close(Some(frame)), Some(code))
     }
 
     /// A read failed. The peer is told if it made the error, as far as its socket takes it.
@@ -360,12 +352,12 @@ impl<S: Read + Write + Drop> Wire<S> {
         }
     }
 
-    /// Asks the socket for a close, whatever it answers.
+    /// Asks the socket for a close, whatever it answers. The stage is for the caller to settle.
     fn tell(&mut self, code: u16)
         ensures { Tells S.contents self.old.socket code self.new.socket }
     {
-        let answer = self.close(code);
-        drop(answer);
+        let told = self.shut(code);
+        drop(told);
     }
 
     /// What waits goes to the stream. Ok: the wire is open again.

@@ -1,3 +1,4 @@
+-- The loop keeps that there are as many links as senders so far.
 use Rattle.std.proofs.Common.{◌∙◌, ap, arith, length}
 use Rattle.std.proofs.lemmas.List.{length_push}
 use Rattle.cf_broker.proofs.broker.locked.Goals as goal

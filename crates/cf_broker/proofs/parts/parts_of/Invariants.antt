@@ -1,3 +1,4 @@
+-- The loop keeps that there are as many parts as sources of epochs so far.
 use Rattle.std.proofs.Common.{◌≡◌, vec_len, length}
 use Rattle.cf_broker.proofs.parts.parts_of.Given as goal
 

@@ -1,3 +1,4 @@
+-- The loop keeps that the events, as they are shown, are those of before and then the publications so far.
 use Rattle.std.proofs.Common.{◌≡◌, List, [], ◌∷◌, ◌++◌, map, sym, ap, ◌∙◌, append_assoc}
 use Rattle.std.proofs.lemmas.List.{map-append}
 use Rattle.cf_client.specs.AppItem.{published}

@@ -1,3 +1,4 @@
+-- What `serve_on` requires holds for the names that are chosen here: those of the words and the namespaces at hand.
 use Rattle.cf_broker.specs.Shards.{by_number}
 use Rattle.cf_commands.proofs.serving.serve.Given as goal
 

@@ -1,3 +1,4 @@
+-- The pass is put back over the one that stood in for it (`put_over`), and its logs tell if the size is set (`took`).
 use Rattle.cf_commands.proofs.Sizing.{put_over, took}
 use Rattle.cf_commands.proofs.sizes.set_in.Goals as goal
 

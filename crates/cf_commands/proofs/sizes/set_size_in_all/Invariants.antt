@@ -1,3 +1,4 @@
+-- The loop keeps that all shards so far took the size, or that one of them is full, and that the others' passes stay.
 use Rattle.cf_commands.proofs.Sizing.{IsUpTo}
 use Rattle.cf_commands.proofs.sizes.set_size_in_all.Given as goal
 

@@ -1,3 +1,4 @@
+-- By whether the channel has settings, which by what `find` promises are those that the definition looks at.
 use Rattle.std.proofs.Common.{ap}
 use Rattle.cf_dispatch.specs.Answers.{has_presence}
 use Rattle.cf_dispatch.proofs.answers.keeps_presence.Goals as goal

@@ -1,3 +1,4 @@
+-- The loop keeps that those named so far had their turns, none more often than it stood in the list (`goes_on`).
 use Rattle.cf_dispatch.proofs.Batches.{goes_on}
 use Rattle.cf_dispatch.proofs.batch.take_batch.Goals as goal
 

@@ -1,3 +1,4 @@
+-- Where a letter came and stirs, the steps of the delivery are what receiving, delivering and waking promise.
 use Rattle.std.proofs.Common.{Some}
 use Rattle.cf_dispatch.proofs.mailbox.pass_on.Goals as goal
 

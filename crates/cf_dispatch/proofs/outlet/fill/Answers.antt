@@ -1,3 +1,4 @@
+-- The loop keeps what was taken, and how much at least; one item more is the front that waited (`takes_more`).
 use Rattle.std.proofs.Common.{◌≡◌, ◌∙◌, ◌++◌, ◌∷◌, ◌+◌, [], List, ap, inl, length, option_map, sum_by, sym, arith}
 use Rattle.std.proofs.lemmas.List.{length_push}
 use Rattle.std.proofs.lemmas.List.Sums.{sum_by-append}

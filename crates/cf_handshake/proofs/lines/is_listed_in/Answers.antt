@@ -1,3 +1,4 @@
+-- The loop keeps that the part begun and the bytes left answer as the whole list does; a comma ends a part.
 use Rattle.std.proofs.Common.{◌≡◌, ℕ, ◌+◌, ◌-◌, ◌<◌, ◌≤◌, false, ◌==◌, List, length, get_or, take, drop, refl, ◌∙◌}
 use Rattle.std.proofs.Common.{arith, length-drop, get_or-drop}
 use Rattle.std.specs.List.{list_any}

@@ -1,3 +1,4 @@
+-- The loop keeps that the spans found are all values before the rest (`Head`); an end and a fault follow from that.
 use Rattle.std.proofs.Common.{◌≡◌, ◌≢◌, ◌∷◌, [], List, ℕ, ◌-◌, ◌++◌, length, sym, ap, ◌∙◌, subst, eqb-true}
 use Rattle.std.proofs.lemmas.Bool.{eqb-false}
 use Rattle.std.proofs.lemmas.List.{nil_from_length}

@@ -1,3 +1,4 @@
+-- What each round takes comes behind what the rounds before took (`grows_own`, `grows_more`).
 use Rattle.cf_node.proofs.Growing.{grows_more, grows_none, grows_own}
 use Rattle.cf_node.proofs.desk.take_over.Goals as goal
 

@@ -1,3 +1,4 @@
+-- A round in which it may pass on is one delivery more (`one_delivery_more`).
 use Rattle.cf_node.proofs.Delivering.{one_delivery_more}
 use Rattle.cf_node.proofs.dispatcher.dispatch.Goals as goal
 

@@ -1,3 +1,4 @@
+-- The loop keeps nothing, and ends since each round takes a connection out.
 use Rattle.std.specs.Prelude.{vec_len}
 use Rattle.cf_node.proofs.io_loop.let_go.Given as goal
 

@@ -1,3 +1,4 @@
+-- The text is the definition's, so it replies to the history wherever that was answered; the id is in range.
 use Rattle.std.proofs.Common.{Err, Ok, Result, rules}
 use Rattle.std.specs.Prelude.{IfOk}
 use Rattle.cf_node_hub.proofs.histories.history_reply.Goals as goal

@@ -1,3 +1,4 @@
+-- By whether the channel had clients: those are set in the map as `enter` leaves them, or a first one is put there.
 use Rattle.std.proofs.Common.{Some, rules, refl, sym, subst}
 use Rattle.std.proofs.lemmas.Map.Text.{btree_map_updates_text}
 use Rattle.std.proofs.lemmas.Result.{on_ok_weaker, on_err_weaker}

@@ -1,3 +1,4 @@
+-- What stands under the name from an entry on is the entry's value, if that is its name, and else what comes behind.
 use Rattle.std.proofs.Common.{◌≡◌, ℕ, ◌<◌, ◌+◌, suc, List, ◌∷◌, drop, get_or, length, cond, Some, String, Global, sym}
 use Rattle.std.proofs.Common.{ap, ◌∙◌, add-one}
 use Rattle.std.proofs.Math.Seq.{drop-cons}

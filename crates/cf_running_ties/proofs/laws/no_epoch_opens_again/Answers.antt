@@ -1,3 +1,4 @@
+-- Sources that give one epoch are the same, so none gives one twice (`none-twice`), and none opens again in a log.
 use Rattle.cf_running_ties.proofs.Sources.{none-twice, once-by-log}
 use Rattle.cf_running_ties.proofs.laws.no_epoch_opens_again.Goals as goal
 

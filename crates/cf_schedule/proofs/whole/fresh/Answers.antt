@@ -1,3 +1,4 @@
+-- Past an event that is new, what is left is fresh exactly if all is; at one that isn't new, all is not.
 use Rattle.std.proofs.Common.{◌≡◌, ◌∙◌, ◌&&◌, ◌∷◌, List, ap, true, false, sym}
 use Rattle.cf_schedule.specs.Fresh.{are_fresh, is_new}
 use Rattle.cf_schedule.specs.declared.event.Event.{Event}

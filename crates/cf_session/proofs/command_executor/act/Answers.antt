@@ -1,3 +1,4 @@
+-- Each action is a call of the node; a leave's clause is rewritten by its variant and by the channel's bytes.
 use Rattle.std.proofs.Common.{ℕ, Some, List, sym, subst}
 use Rattle.cf_session.specs.Calls.{Leave, Done}
 use Rattle.cf_session.specs.SessionMachine.{Calls}

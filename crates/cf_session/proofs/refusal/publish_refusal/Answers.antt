@@ -1,3 +1,4 @@
+-- Name, key and data have passed, so the first check that fails is one of the namespace's, and those pass as well.
 use Rattle.std.proofs.Common.{rules, ◌≡◌, ◌≤◌, ◌||◌, ℕ, Bool, true, false, None, List, [], ◌∷◌, length, refl, sym, ◌∙◌}
 use Rattle.cf_protocol.specs.Checks.{Check, first_failed, is_bad_channel, is_bad_data, is_bad_key, may_publish, set_up}
 use Rattle.cf_protocol.specs.Shown.{shown_data}

@@ -1,3 +1,4 @@
+-- By the request's variant, with which the checks are read.
 use Rattle.std.proofs.Common.{ap, sym}
 use Rattle.cf_protocol.specs.Checks.{checks, first_failed}
 use Rattle.cf_protocol.specs.Shown.{shown_request}

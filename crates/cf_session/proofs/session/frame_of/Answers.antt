@@ -1,3 +1,4 @@
+-- A text that `read_commands` calls bad is no frame of commands, which is one way to be unreadable.
 use Rattle.std.proofs.Common.{inr}
 use Rattle.std.proofs.lemmas.Result.{IfErr-weaker}
 use Rattle.cf_session.proofs.session.frame_of.Goals as goal

@@ -1,3 +1,4 @@
+-- The loop keeps that each round made one copy of the publication.
 use Rattle.std.proofs.Common.{◌≡◌, vec_len}
 use Rattle.cf_shard.specs.Delivery.{AreCopies}
 use Rattle.cf_shard.proofs.delivery.copies_of.Given as goal

@@ -1,3 +1,4 @@
+-- The loop keeps that as much of the room went as was passed of what is due.
 use Rattle.std.proofs.Common.{◌≡◌, ◌+◌, length}
 use Rattle.cf_shard.proofs.entries.fits.Given as goal
 

@@ -1,3 +1,4 @@
+-- The loop keeps that the log with the entries still due is the one to be made, and that the pass has seen it whole.
 use Rattle.std.proofs.Common.{◌≡◌, ◌+◌, ◌≤◌, ◌^◌, ◌++◌, length}
 use Rattle.cf_stream.specs.LogState.{due_entries}
 use Rattle.cf_shard.specs.ShardLog.{HasWhole, KeepsShare}

@@ -1,3 +1,4 @@
+-- The loop keeps that the number is the sum of the bytes so far, modulo 16.
 use Rattle.std.proofs.Common.{◌≡◌, ◌<◌, ◌%◌, sum, take}
 use Rattle.cf_shard.proofs.numbers.shard_of.Given as goal
 

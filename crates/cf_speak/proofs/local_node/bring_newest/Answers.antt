@@ -1,3 +1,4 @@
+-- If no request was refused no session was hit (`all_unhit`), so the stream's newest comes to all that follow it.
 use Rattle.std.proofs.Common.{◌≡◌, ◌∙◌, ◌≤◌, ℕ, false, Option, Some, None, List, [], ◌∷◌, arith, length, subst, sym}
 use Rattle.std.proofs.Common.{inl, inr, option_map, option_copied, option_and_then, ap}
 use Rattle.cf_protocol.specs.Datum.{Placed}

@@ -1,3 +1,4 @@
+-- At the walk's end no entry is due before the moment that it found, and so no stream of the map (`entries_quiet`).
 use Rattle.std.proofs.Common.{◌∙◌, sym, ap}
 use Rattle.cf_stream.specs.Streams.{due_channels}
 use Rattle.cf_stream.proofs.Channels.{by_bytes}

@@ -1,3 +1,4 @@
+-- By whether a stream stood: the map has it used then (`sets`); else one opens, unless a position was given.
 use Rattle.std.proofs.Common.{Some, refl, sym, ap, ◌∙◌, rules, w32}
 use Rattle.std.proofs.lemmas.Int.{to_z-of_z}
 use Rattle.std.specs.BTreeMap.{get_by_text}

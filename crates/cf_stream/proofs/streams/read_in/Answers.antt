@@ -1,3 +1,4 @@
+-- By whether a stream stood: the map has it used then (`sets`); else one opens, as `open_idle` promises.
 use Rattle.std.proofs.Common.{Some, sym, ap, ◌∙◌, rules}
 use Rattle.std.specs.BTreeMap.{get_by_text}
 use Rattle.std.proofs.lemmas.Map.Text.{btree_map_updates_text}

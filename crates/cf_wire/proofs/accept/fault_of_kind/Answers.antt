@@ -1,3 +1,4 @@
+-- By the kind: each but want of memory is a fault of the stream in the definition too.
 use Rattle.std.proofs.Common.{◌≡◌, refl}
 use Rattle.std.specs.declared.io.ErrorKind.{ErrorKind}
 use Rattle.std.specs.declared.io.ErrorKind.TheVariants as kind

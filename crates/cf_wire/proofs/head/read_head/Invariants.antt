@@ -1,3 +1,4 @@
+-- The loop keeps that the bytes so far came from the stream, and that no blank line ends in them.
 use Rattle.std.proofs.Common.{◌+◌, ◌-◌, length}
 use Rattle.std.specs.Io.KnownBytes.{Consumes}
 use Rattle.cf_wire.specs.Heads.{HasNoEnd, longest_head}

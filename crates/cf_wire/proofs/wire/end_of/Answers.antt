@@ -1,3 +1,4 @@
+-- By the error, and then by its kind: each but want of memory is a fault of the stream in the definition too.
 use Rattle.std.proofs.Common.{◌≡◌, ◌∙◌, refl, sym, ap}
 use Rattle.std.specs.declared.io.ErrorKind.{ErrorKind}
 use Rattle.std.specs.declared.io.ErrorKind.TheVariants as kind

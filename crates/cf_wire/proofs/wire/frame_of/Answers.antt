@@ -1,3 +1,4 @@
+-- Code and reason are the definition's, so the frame is (`frame_same`).
 use Rattle.std.proofs.Common.{◌∙◌}
 use Rattle.cf_wire.proofs.Turns.{frame_same}
 use Rattle.cf_wire.proofs.wire.frame_of.Goals as goal

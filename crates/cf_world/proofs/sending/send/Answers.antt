@@ -1,3 +1,4 @@
+-- Where nothing is sent, the end is by a lemma of `proofs/SentSo`; else what client, hub and broker say is joined.
 use Rattle.std.proofs.Common.{rules, ◌≡◌, ◌&&◌, true, false, not, Bool, Result, Ok, Err, String, Global, Option, Some}
 use Rattle.std.proofs.Common.{ℕ, sym, ap, refl, subst, ◌∙◌}
 use Rattle.cf_client.specs.ClientCalls.{RefusedBy}

@@ -1,3 +1,4 @@
+-- The words' invariant says that the passes are their first ones; the words are the shards', and so are the passes.
 use Rattle.cf_broker.proofs.Numbers.{firsts_named}
 use Rattle.cf_order.specs.Passes.{first_pass}
 use Rattle.std.proofs.Common.{ap, map, ◌∙◌}

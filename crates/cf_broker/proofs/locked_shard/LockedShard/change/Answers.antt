@@ -1,3 +1,4 @@
+-- A trim or a forget lacks room at the shard, which is read off the log that the pass has then seen (`entry_by_log`).
 use Rattle.cf_broker.proofs.Refusals.{entry_by_log}
 use Rattle.cf_broker.proofs.locked_shard.LockedShard.change.Goals as goal
 

@@ -1,3 +1,4 @@
+-- Why the shard refuses a history is read off the log that the pass has then seen, by `history_by_log`.
 use Rattle.cf_broker.proofs.Refusals.{history_by_log}
 use Rattle.cf_broker.proofs.locked_shard.LockedShard.history.Goals as goal
 

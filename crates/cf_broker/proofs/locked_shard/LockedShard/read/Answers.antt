@@ -1,3 +1,4 @@
+-- Why the shard refuses a read is read off the log that the pass has then seen, by `read_by_log`.
 use Rattle.cf_broker.proofs.Refusals.{read_by_log}
 use Rattle.cf_broker.proofs.locked_shard.LockedShard.read.Goals as goal
 

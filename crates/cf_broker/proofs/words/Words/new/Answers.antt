@@ -1,3 +1,4 @@
+-- The loop keeps as many words as it counts, each with its first pass; a list is named by itself (`names_self`).
 use Rattle.std.proofs.Common.{arith}
 use Rattle.cf_broker.proofs.Numbers.{names_self}
 use Rattle.cf_broker.proofs.words.Words.new.Goals as goal

@@ -1,3 +1,4 @@
+-- What the deque promises of its front is carried over the view.
 use Rattle.std.proofs.Common.{ap, sym, ◌∙◌}
 use Rattle.cf_dispatch.proofs.outbox.Outbox.next.Goals as goal
 

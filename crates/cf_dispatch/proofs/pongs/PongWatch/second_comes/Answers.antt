@@ -1,3 +1,4 @@
+-- Where an answer is owed: what may be unread puts it off, and else it is late by the definition's own difference.
 use Rattle.std.proofs.Common.{rules, ◌≡◌, ◌-◌, ℕ, Bool, true, false, not, if◌then◌else◌, nat_le, Option, Some, sym, ap}
 use Rattle.std.proofs.Common.{◌∙◌}
 use Rattle.std.specs.Prelude.{◌&&◌}

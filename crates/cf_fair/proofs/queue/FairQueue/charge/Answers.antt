@@ -1,3 +1,4 @@
+-- A slot within the accounts pays: its own account is the one that changes, and each capped sum is the definition's.
 use Rattle.std.proofs.Common.{rules, ◌≡◌, ◌<◌, ◌/◌, ◌==◌, ℕ, Bool, true, false, if◌then◌else◌, List, length, slice_set}
 use Rattle.std.proofs.Common.{get_or, max, nat_lt, refl, sym, ap, subst, ◌∙◌}
 use Rattle.std.proofs.lemmas.List.{get_or_read, get_or-set_same, get_or-set_other}

@@ -1,3 +1,5 @@
+-- The loop keeps that the sessions passed were served, each once, and the others are as they were (`IsOnItsWay`). At
+-- its end each clause is read off that, and rows and sessions agree: nothing ended, or `settle_all` made them agree.
 use Rattle.std.proofs.Common.{rules, ◌≡◌, ◌≤◌, ◌∙◌, ◌+◌, ℕ, List, [], ◌∷◌, ◌++◌, Option, arith, refl, subst, sym, ap}
 use Rattle.std.proofs.Common.{option_map}
 use Rattle.std.specs.BTreeMap.{is_at}

@@ -1,3 +1,4 @@
+-- By the end: before the hub's call no session changed, after it only the new one, which is the client's own then.
 use Rattle.std.proofs.Common.{ap, refl}
 use Rattle.std.specs.Prelude.{Err, string_bytes}
 use Rattle.cf_dispatch.specs.Standing.{Stands}

@@ -1,3 +1,4 @@
+-- The session that begins in the hub is the client's own (`begins_own`); a refusal by the hub is told by its code.
 use Rattle.std.proofs.Common.{ap, sym}
 use Rattle.std.specs.Prelude.{Err, string_bytes}
 use Rattle.cf_node.proofs.Owning.{begins_own}

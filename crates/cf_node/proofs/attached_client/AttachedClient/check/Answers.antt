@@ -1,3 +1,4 @@
+-- The session that the hub checks is the client's own (`to_own`).
 use Rattle.std.proofs.Common.{sym}
 use Rattle.cf_node.specs.Own.{Checks}
 use Rattle.cf_node.proofs.Owning.{to_own}

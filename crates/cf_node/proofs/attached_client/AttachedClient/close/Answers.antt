@@ -1,3 +1,4 @@
+-- The session that the hub closes is the client's own (`to_own`).
 use Rattle.std.proofs.Common.{sym}
 use Rattle.cf_node.specs.Own.{Closes}
 use Rattle.cf_node.proofs.Owning.{to_own}

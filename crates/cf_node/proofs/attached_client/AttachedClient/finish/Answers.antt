@@ -1,3 +1,4 @@
+-- The session whose subscription the hub finishes is the client's own (`to_own`).
 use Rattle.std.proofs.Common.{sym}
 use Rattle.cf_node.specs.Own.{Finishes}
 use Rattle.cf_node.proofs.Owning.{to_own}

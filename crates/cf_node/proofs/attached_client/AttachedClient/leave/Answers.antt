@@ -1,3 +1,4 @@
+-- The session that leaves the channel in the hub is the client's own (`to_own`).
 use Rattle.std.proofs.Common.{sym}
 use Rattle.cf_node.specs.Own.{Leaves}
 use Rattle.cf_node.proofs.Owning.{to_own}

@@ -1,3 +1,4 @@
+-- The session that owes the hub no answer any more is the client's own (`to_own`), and the others stay.
 use Rattle.std.proofs.Common.{sym}
 use Rattle.cf_node.specs.Own.{Pongs}
 use Rattle.cf_node.proofs.Owning.{to_own}

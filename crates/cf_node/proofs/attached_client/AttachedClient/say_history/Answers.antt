@@ -1,3 +1,4 @@
+-- The session for which the hub has the reply wait is the client's own (`to_own`).
 use Rattle.std.proofs.Common.{sym}
 use Rattle.std.specs.Prelude.{string_bytes}
 use Rattle.cf_node.specs.Own.{Says}

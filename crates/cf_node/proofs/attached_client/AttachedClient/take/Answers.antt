@@ -1,3 +1,4 @@
+-- The session for which `take_for` takes what waits is the client's own (`takes_own`, `moves_own`).
 use Rattle.std.proofs.Common.{sym}
 use Rattle.cf_node.proofs.Handing.{takes_own}
 use Rattle.cf_node.proofs.Owning.{moves_own}

@@ -1,3 +1,4 @@
+-- An accepted publish is done with the answer that the backend gave, and the backend promises what it is.
 use Rattle.cf_node.proofs.command_handler.CommandHandlerCommandExecutor.publish.Goals as goal
 
 -- what was answered to the publish of that channel, key and body

@@ -1,3 +1,4 @@
+-- The backend read for what began, and left that as it was, so what was read may be handed over for it.
 use Rattle.cf_node.proofs.command_handler.CommandHandlerCommandExecutor.read.Goals as goal
 
 -- what was read for what began

@@ -1,3 +1,4 @@
+-- What was taken stays as it is in a turn that only sends, and else grows as `go_on` has it grow.
 use Rattle.cf_node.proofs.Growing.{grows_none}
 use Rattle.cf_node.proofs.desk.SessionDesk.begin.Goals as goal
 

@@ -1,3 +1,4 @@
+-- What the outbox gives first is the front of what was taken before (`hands_front`).
 use Rattle.cf_node.proofs.Handing.{hands_front}
 use Rattle.cf_node.proofs.desk.SessionDesk.take.Goals as goal
 

@@ -1,3 +1,4 @@
+-- For another session nothing is taken; for the client's own nothing is owed only if `take_for` took all.
 use Rattle.std.proofs.Common.{arith}
 use Rattle.cf_node.proofs.Waiting.{owes_none, takes_nothing}
 use Rattle.cf_node.proofs.desk.SessionDesk.take_waiting.Goals as goal

@@ -1,3 +1,4 @@
+-- `hear` begins the text's script and `go_on` leads on; if memory wasn't short by the end, it wasn't in between.
 use Rattle.cf_session.specs.Standing.{met_refused_memory, progress_of}
 use Rattle.cf_node.proofs.Carrying.{still_long}
 use Rattle.cf_node.proofs.desk.SessionDeskDesk.heard.Goals as goal

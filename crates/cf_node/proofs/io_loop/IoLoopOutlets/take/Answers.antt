@@ -1,3 +1,4 @@
+-- Without a desk at the session's slot nothing is taken (`takes_nothing`).
 use Rattle.std.proofs.Common.{[]}
 use Rattle.cf_node.proofs.Waiting.{takes_nothing}
 use Rattle.cf_node.proofs.io_loop.IoLoopOutlets.take.Goals as goal

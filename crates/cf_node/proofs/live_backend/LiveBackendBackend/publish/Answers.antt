@@ -1,3 +1,4 @@
+-- The broker answers at some point of the shard's log (`was_published`), for the channel that the publish names.
 use Rattle.std.proofs.Common.{◌≡◌, ℕ, List, rules, subst}
 use Rattle.std.specs.Prelude.{IfOk, string_bytes}
 use Rattle.cf_node.proofs.Handing.{was_published}

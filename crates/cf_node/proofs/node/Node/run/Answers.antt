@@ -1,3 +1,4 @@
+-- What the scope's closure requires of names and epochs are the method's own bounds.
 use Rattle.std.proofs.Common.{rules}
 use Rattle.cf_node.proofs.node.Node.run.Goals as goal
 

@@ -1,3 +1,4 @@
+-- A session that opens has nothing to say yet, and a refusal changes none: all say what was seen (`attach_kept`).
 use Rattle.cf_node_hub.proofs.Calls.{attach_kept}
 use Rattle.cf_node_hub.proofs.node_hub.NodeHub.attach.Goals as goal
 

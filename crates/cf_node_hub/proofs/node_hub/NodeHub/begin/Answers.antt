@@ -1,3 +1,4 @@
+-- To lend a pass leaves what was seen as it was; a session that begins, or is refused, says no more (`begin_kept`).
 use Rattle.std.proofs.Common.{rules, subst, sym, List}
 use Rattle.cf_order.specs.Passes.{PassState}
 use Rattle.cf_node_hub.specs.Told.{IsReply}

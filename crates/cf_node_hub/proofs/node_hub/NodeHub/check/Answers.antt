@@ -1,3 +1,4 @@
+-- The one session that is checked still says what was seen, whatever the check finds (`checks-keep`).
 use Rattle.cf_hub.specs.Wordings.{plain}
 use Rattle.cf_model.specs.Sessions.{checks}
 use Rattle.cf_node_hub.specs.Told.{IsReply}

@@ -1,3 +1,4 @@
+-- One session moves (`one_kept`): it is closed, which keeps that it says what was seen (`closes-keep`).
 use Rattle.cf_queue.specs.OutQueue.{Close}
 use Rattle.cf_model.specs.Sessions.{closes_now}
 use Rattle.cf_node_hub.specs.Told.{IsReply}

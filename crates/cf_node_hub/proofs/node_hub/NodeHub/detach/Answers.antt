@@ -1,3 +1,4 @@
+-- The session is gone and the others stay, so all that there are say what was seen (`gone-says`).
 use Rattle.cf_node_hub.specs.Told.{IsReply}
 use Rattle.cf_node_hub.specs.Seen.{seen_lists}
 use Rattle.cf_node_hub.proofs.Speaking.{gone-says}

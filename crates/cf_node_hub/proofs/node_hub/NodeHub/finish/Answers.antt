@@ -1,3 +1,4 @@
+-- The one session whose subscription is finished says what was seen, whichever way that goes (`finishes-says`).
 use Rattle.cf_node_hub.specs.Told.{IsReply}
 use Rattle.cf_node_hub.specs.Seen.{seen_lists}
 use Rattle.cf_node_hub.proofs.Speaking.{finishes-says}

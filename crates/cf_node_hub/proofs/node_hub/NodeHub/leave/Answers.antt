@@ -1,3 +1,4 @@
+-- One session moves (`one_kept`): it leaves a channel, which keeps that it says what was seen (`leaves-keep`).
 use Rattle.cf_model.specs.Sessions.{leaves}
 use Rattle.cf_node_hub.specs.Told.{IsReply}
 use Rattle.cf_node_hub.proofs.Calls.{one_kept}

@@ -1,3 +1,4 @@
+-- The text is a reply that a session gives itself, which may wait among the notes of what was seen (`say_kept`).
 use Rattle.cf_node_hub.proofs.Calls.{say_kept}
 use Rattle.cf_node_hub.proofs.node_hub.NodeHub.say.Goals as goal
 

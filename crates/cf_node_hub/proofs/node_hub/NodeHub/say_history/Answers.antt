@@ -1,3 +1,4 @@
+-- The pass by which the history was answered is taken in, so what the reply brings was then seen (`history_kept`).
 use Rattle.cf_node_hub.proofs.Calls.{history_kept, sees_on}
 use Rattle.cf_node_hub.proofs.node_hub.NodeHub.say_history.Goals as goal
 

@@ -1,3 +1,4 @@
+-- One session moves (`one_kept`): its front is taken, which keeps that it says what was seen (`takes-keep`).
 use Rattle.cf_model.specs.Sessions.{takes_front}
 use Rattle.cf_node_hub.specs.Told.{IsReply}
 use Rattle.cf_node_hub.proofs.Calls.{one_kept}

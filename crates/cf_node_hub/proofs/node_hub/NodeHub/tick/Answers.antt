@@ -1,3 +1,4 @@
+-- Each session says what was seen after the tick, whatever that does to it (`ticks-says`).
 use Rattle.cf_node_hub.specs.Told.{IsReply}
 use Rattle.cf_node_hub.specs.Seen.{seen_lists}
 use Rattle.cf_node_hub.proofs.Speaking.{ticks-says}

@@ -1,3 +1,4 @@
+-- Each entry's clone has its name and its settings, so the two tables are the same.
 use Rattle.std.proofs.Common.{◌≡◌, List, [], ◌∷◌, String, Global, refl, sym, ap, subst, ◌∙◌, string_bytes}
 use Rattle.std.specs.List.{AllZip}
 use Rattle.cf_protocol.specs.Settings.{named, AreUsable}

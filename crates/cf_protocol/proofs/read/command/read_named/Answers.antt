@@ -1,3 +1,5 @@
+-- The id is read, and then the request, as the definition has it. Whether a request needs an id depends on its method
+-- alone (`needs`), so the code may refuse a missing id by the method, before it reads the request.
 use Rattle.std.proofs.Common.{rules, Err, ◌≡◌, ℕ, Bool, true, false, ◌&&◌, cond, Option, Some, None, ◌==◌, refl, ap}
 use Rattle.std.proofs.Common.{◌∙◌, ne_eqb, subst}
 use Rattle.cf_json.specs.Grammar.{Tree}

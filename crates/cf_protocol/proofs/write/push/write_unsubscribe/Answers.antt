@@ -1,3 +1,4 @@
+-- A push that says nothing is the empty object; any other has a channel or a code to write, and is written in parts.
 use Rattle.std.proofs.Common.{◌≡◌, ℕ, ◌<◌, ◌+◌, ◌==◌, List, [], ◌∷◌, true, length, subst, sym, ◌∙◌, refl, arith}
 use Rattle.std.proofs.Common.{eqb-true}
 use Rattle.std.specs.Prelude.{IfOk, codes, string_bytes}

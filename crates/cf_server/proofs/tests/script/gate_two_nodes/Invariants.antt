@@ -1,3 +1,4 @@
+-- The brand of the two nodes is given its meaning: the words by their numbers, and the namespaces of the settings.
 use Rattle.cf_broker.specs.Shards.{by_number}
 use Rattle.cf_server.proofs.tests.script.gate_two_nodes.Given as goal
 

@@ -1,3 +1,4 @@
+-- The session asks for a begin, and what is left of its script is what comes after the answer to that.
 use Rattle.std.proofs.Common.{◌≡◌, ◌∙◌, ap, inl, rules, Some, string_bytes}
 use Rattle.cf_session.specs.CommandScripts.{after_begin}
 use Rattle.cf_session.specs.SessionMachine.{Out}

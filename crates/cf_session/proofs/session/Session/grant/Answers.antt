@@ -1,3 +1,4 @@
+-- By the request's variant; the callees' clauses, of a publish and of a subscribe, are rewritten by it.
 use Rattle.std.proofs.Common.{IfOk, subst, sym}
 use Rattle.cf_protocol.specs.Shown.{shown_request}
 use Rattle.cf_session.specs.CommandScripts.{granted}

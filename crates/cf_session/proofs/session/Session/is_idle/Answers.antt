@@ -1,3 +1,4 @@
+-- By the stage: one that is ready is idle exactly if no command is left (`idle_when_ready`).
 use Rattle.std.proofs.Common.{◌∙◌, ap, sym}
 use Rattle.cf_session.specs.Standing.{commands_left, idle_at}
 use Rattle.cf_session.proofs.Steps.{idle_when_ready}

@@ -1,3 +1,4 @@
+-- A caller of `act`, whose clause it hands on.
 use Rattle.cf_session.proofs.session.Session.next_action.Goals as goal
 
 pub returns-clause-acts : goal.returns-clause-acts

@@ -1,3 +1,4 @@
+-- The loop keeps the script that is left, as a command that is passed over has no step in it, and fewer are left.
 use Rattle.std.proofs.Common.{◌≡◌, ◌≤◌, length}
 use Rattle.cf_session.specs.Standing.{tables_of, rest_of, refusals}
 use Rattle.cf_session.specs.declared.stage.ScriptStage.TheVariants as stage

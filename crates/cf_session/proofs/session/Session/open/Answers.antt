@@ -1,3 +1,4 @@
+-- A connect whose token is known has its attach next (`attach_next`); without memory for that it is given up.
 use Rattle.std.proofs.Common.{◌≡◌, ◌∙◌, inr, ap, sym, option_copied, string_bytes, Some}
 use Rattle.cf_protocol.specs.Settings.{user_of}
 use Rattle.cf_protocol.specs.Shown.{shown_request}

@@ -1,3 +1,4 @@
+-- By whether the client is known: its script is that of a first command, or of one that is granted or falls short.
 use Rattle.std.proofs.Common.{◌≡◌, ◌∙◌, true, false, not, is_some, ap, sym, subst, inr, Option, Some, None, List, ◌∷◌}
 use Rattle.cf_protocol.specs.Datum.{Who}
 use Rattle.cf_protocol.specs.Request.{Command}

@@ -1,3 +1,4 @@
+-- The pass at a shard's number is of that shard's word (`named_get`), and so is the one that is lent of it.
 use Rattle.std.proofs.Common.{sym, ap, ◌∙◌}
 use Rattle.cf_order.specs.Passes.{PassState}
 use Rattle.cf_shard.proofs.Named.{named_get}

@@ -1,3 +1,4 @@
+-- What presence promises of its own `enter` is said of the shard, with the refusal named anew (`named_ok`).
 use Rattle.cf_shard.proofs.Refusals.{named_ok}
 use Rattle.cf_shard.proofs.shard.Shard.enter.Goals as goal
 

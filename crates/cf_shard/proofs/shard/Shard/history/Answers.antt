@@ -1,3 +1,4 @@
+-- The log gains an opening if no stream stood (`made`): the invariant and the answer off the log follow from that.
 use Rattle.std.proofs.Common.{sym, ℤ, ◌≡◌, ◌++◌, [], ap, subst, w32, ◌∙◌}
 use Rattle.std.proofs.lemmas.Result.{err_from_is_err_and}
 use Rattle.std.proofs.lemmas.Int.{to_z-of_z}

@@ -1,3 +1,4 @@
+-- Presence alone changes, as its own `leave` promises; the rest of the view is what it was.
 use Rattle.cf_shard.proofs.shard.Shard.leave.Goals as goal
 
 pub returns : goal.returns

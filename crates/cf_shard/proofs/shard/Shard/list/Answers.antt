@@ -1,3 +1,4 @@
+-- A caller of presence's `list`, whose clause it hands on with the refusal named anew (`named_ok`).
 use Rattle.cf_shard.proofs.Refusals.{named_ok}
 use Rattle.cf_shard.proofs.shard.Shard.list.Goals as goal
 

@@ -1,3 +1,4 @@
+-- Streams of which none stands are those of the empty log (`no_streams_shard`), in which no epoch opened yet.
 use Rattle.cf_shard.proofs.Logs.{no_streams_shard}
 use Rattle.cf_shard.proofs.Opening.{fresh-first}
 use Rattle.cf_shard.proofs.shard.Shard.new.Goals as goal

@@ -1,3 +1,4 @@
+-- The pass has then seen the owner's log, off which the stream's position is read (`position_by_log`).
 use Rattle.std.proofs.Common.{sym, ap, subst}
 use Rattle.cf_order.specs.Passes.{PassState}
 use Rattle.cf_shard.specs.LogAnswer.{IsPosition}

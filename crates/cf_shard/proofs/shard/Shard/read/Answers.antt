@@ -1,3 +1,4 @@
+-- The log gains an opening if no stream stood (`made`): the invariant and the answer off the log follow from that.
 use Rattle.std.proofs.Common.{sym, ◌≡◌, ◌++◌, [], ap, ◌∙◌}
 use Rattle.std.proofs.lemmas.Result.{err_from_is_err_and}
 use Rattle.cf_shard.specs.Shard.{Lent}

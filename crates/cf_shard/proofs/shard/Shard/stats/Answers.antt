@@ -1,3 +1,4 @@
+-- A caller of presence's `stats`, whose clauses it hands on.
 use Rattle.cf_shard.proofs.shard.Shard.stats.Goals as goal
 
 pub returns-clause-clients : goal.returns-clause-clients

@@ -1,3 +1,4 @@
+-- It is a part of the invariant.
 use Rattle.cf_shard.proofs.shard.Shard.stays_fresh.Goals as goal
 
 pub returns : goal.returns

@@ -1,3 +1,4 @@
+-- The log gains the entries of what is due (`made`); no size that was set meanwhile changed how long streams hold.
 use Rattle.std.proofs.Common.{◌≡◌, ◌++◌, ap, ◌∙◌}
 use Rattle.cf_stream.specs.LogState.{due_entries}
 use Rattle.cf_stream.specs.Streams.{after_tick, all_due, stream_of}

@@ -1,3 +1,4 @@
+-- The log gains an entry if the channel's stream stood (`made`); the invariant and each clause follow from that.
 use Rattle.std.proofs.Common.{◌≡◌, ◌++◌, refl, ap, ◌∙◌}
 use Rattle.cf_stream.specs.Streams.{stream_of}
 use Rattle.cf_shard.specs.Shard.{Lent}

@@ -1,3 +1,4 @@
+-- A caller of `tell`, whose clauses it hands on; the namespaces are those of the streams, which stay.
 use Rattle.std.proofs.Common.{ap}
 use Rattle.cf_stream.specs.Streams.{StreamMap}
 use Rattle.cf_speak.proofs.local_node.LocalNodeCommandExecutor.say.Goals as goal

@@ -1,3 +1,4 @@
+-- The blocks are shared by threads as the row that they hold is, by the lemma `Blocks-sync`.
 use denote.RattleType.{RattleType}
 use denote.Param.Send.{IsSync}
 use Rattle.cf_subs.proofs.Crosses.{Blocks-sync}

@@ -1,3 +1,4 @@
+-- By whether the channel has a number: with it, or with one that is new, there is one row more by names, or none.
 use Rattle.std.proofs.Common.{◌∙◌, ◌<◌, List, length, sym, ap, subst, arith, Result, Ok, Err, OnOk, OnErr}
 use Rattle.std.specs.Prelude.{unwrap_or, []}
 use Rattle.std.proofs.lemmas.List.{length-map}

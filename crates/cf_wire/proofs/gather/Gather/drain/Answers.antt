@@ -1,3 +1,4 @@
+-- The stream took the front of what waited, and that front goes, so what was written and what waits are as before.
 use Rattle.std.proofs.Common.{◌∙◌, ◌++◌, List, ℕ, take, sym, ap, subst, take-append-drop}
 use Rattle.std.specs.Io.KnownBytes.{Appends, Keeps, append_known}
 use Rattle.std.proofs.KnownBytes.{append_known-moved}

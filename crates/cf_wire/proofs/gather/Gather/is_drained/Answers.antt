@@ -1,3 +1,4 @@
+-- Whether the vector is empty goes by its length, which is that of its items.
 use Rattle.std.proofs.Common.{◌==◌, ◌∙◌, ap}
 use Rattle.cf_wire.proofs.gather.Gather.is_drained.Goals as goal
 

@@ -1,3 +1,4 @@
+-- By the stage's variant.
 use Rattle.std.proofs.Common.{ap, sym}
 use Rattle.cf_wire.specs.Stages.{is_unflushed}
 use Rattle.cf_wire.proofs.wire.Wire.is_unflushed.Goals as goal

@@ -1,3 +1,4 @@
+-- By whether the stream would block, which is how the definition tells the stage that is left.
 use Rattle.std.proofs.Common.{◌≡◌, ◌∙◌, true, if◌then◌else◌, sym, ap}
 use Rattle.cf_wire.specs.declared.end.Stage.TheVariants.{Over}
 use Rattle.cf_wire.specs.Stages.{end_by}

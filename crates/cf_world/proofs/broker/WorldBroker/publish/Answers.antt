@@ -1,3 +1,4 @@
+-- The streams got copies of the same texts (`changes_by`), so they show the machine's publish, repeat or refusal.
 use Rattle.std.proofs.Common.{◌≡◌, ◌∙◌, ap, ℕ, List, Option, Some, Ok, rules, refl, sym, subst}
 use Rattle.std.specs.String.{string_bytes}
 use Rattle.std.specs.Result.{IsErrOf}

@@ -1,3 +1,4 @@
+-- A limit of 32 bits can be read back (`limits`), so what `serve` promises of such a command holds.
 use Rattle.std.proofs.Common.{◌≡◌, ℤ, pos, negsuc, w32, of_z, to_z, FitsSigned, arith, subst}
 use Rattle.std.proofs.lemmas.Bool.Decides.{nat_tests}
 use Rattle.std.proofs.lemmas.Int.{to_z-of_z}

@@ -1,3 +1,5 @@
+-- By where it ends: if the client is away, asks for nothing there or the stream can't open, the machine's read does
+-- nothing either; else client, hub and broker go on as in the machine (`read-done`).
 use Rattle.std.proofs.Common.{rules, ◌≡◌, ◌∙◌, ◌&&◌, ℕ, List, Bool, true, false, Option, Some, None, IsSome}
 use Rattle.std.proofs.Common.{option_and_then, refl, sym, ap}
 use Rattle.std.proofs.lemmas.Map.Text.{btree_map_updates_text}

@@ -1,3 +1,4 @@
+-- The brand of the broker is given its meaning: the words by their numbers, and the namespaces that were read.
 use Rattle.cf_broker.specs.Shards.{by_number}
 use Rattle.measure_calls.proofs.no_memory.broker.calls.Given as goal
 

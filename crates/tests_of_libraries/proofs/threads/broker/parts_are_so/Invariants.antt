@@ -1,3 +1,4 @@
+-- The brand of the broker is given its meaning: the words by their numbers, and the namespaces that were read.
 use Rattle.cf_broker.specs.Shards.{by_number}
 use Rattle.tests_of_libraries.proofs.threads.broker.parts_are_so.Given as goal
 
