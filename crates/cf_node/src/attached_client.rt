@@ -42,16 +42,16 @@ pub(crate) struct Present {
 pub(crate) struct AttachedClient<N: Naming> {
     // The number of its session in the hub, once it is attached, and whether it is over.
     standing: Standing,
-    /// Whether it answers its pings in time.
-    pub(crate) pongs: PongWatch,
     /// Nothing more comes of it: it is present nowhere any more.
     pub(crate) is_gone: bool,
     /// It was counted as too slow.
     pub(crate) is_slow: bool,
-    pub(crate) user: String,
-    pub(crate) id: String,
     /// The code of a close before it was attached.
     pub(crate) refused: Option<u16>,
+    /// Whether it answers its pings in time.
+    pub(crate) pongs: PongWatch,
+    pub(crate) user: String,
+    pub(crate) id: String,
     /// The channels in which it is present, each once.
     pub(crate) channels: VecDeque<Present>,
     /// When its presence and positions were refreshed last, in seconds; once its session is over, when
@@ -66,12 +66,12 @@ impl<N: Naming> AttachedClient<N> {
     pub(crate) fn new(alloc: Global, now: u64) -> AttachedClient<N> {
         AttachedClient {
             standing: Standing::nobody(),
-            pongs: PongWatch::new(now),
             is_gone: false,
             is_slow: false,
+            refused: None,
+            pongs: PongWatch::new(now),
             user: String::new(alloc),
             id: String::new(alloc),
-            refused: None,
             channels: VecDeque::new(alloc),
             refreshed: now,
             begun: None,

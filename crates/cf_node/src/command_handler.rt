@@ -32,6 +32,14 @@ pub(crate) struct CommandHandler<'a, B: Backend> {
     pub(crate) client: AttachedClient<B::Of>,
     /// The moment of the turn, in seconds.
     pub(crate) now: u64,
+    /// When it was heard last, in seconds.
+    pub(crate) heard: u64,
+    /// What the turn costs so far in which its client was heard last.
+    pub(crate) cost: u64,
+    /// What its turns before were expected to cost, of which half is believed of the next one.
+    pub(crate) expected: u64,
+    /// In how many turns it was heard since it came or was idle.
+    pub(crate) turns: u32,
     /// It published something for which nobody was woken yet.
     pub(crate) has_published: bool,
     /// It published while some node was behind: it goes on once none is.
@@ -39,14 +47,8 @@ pub(crate) struct CommandHandler<'a, B: Backend> {
     /// In this turn it hears nothing that may publish: little is known of it, and others wait of whom little is, or who is held
     /// has to.
     pub(crate) is_barred: bool,
-    /// What the turn costs so far in which its client was heard last.
-    pub(crate) cost: u64,
-    /// What its turns before were expected to cost, of which half is believed of the next one.
-    pub(crate) expected: u64,
-    /// In how many turns it was heard since it came or was idle.
-    pub(crate) turns: u32,
-    /// When it was heard last, in seconds.
-    pub(crate) heard: u64,
+    /// The last turn in which texts were heard spent the bounds of one.
+    pub(crate) is_spent: bool,
 }
 
 impl<'a, B: Backend> CommandExecutor for CommandHandler<'a, B> {

@@ -51,8 +51,6 @@ pub(crate) enum HeadStage {
 pub(crate) struct Open<'a, B: Backend> {
     wire: Wire<Gather<Socket>>,
     desk: SessionDesk<'a, B>,
-    // Its last turn in which texts were heard spent the bounds of one.
-    is_spent: bool,
 }
 
 impl Head {
@@ -121,7 +119,6 @@ impl<'a, B: Backend> Open<'a, B> {
         Open {
             wire,
             desk: SessionDesk::new(backend, now),
-            is_spent: false,
         }
     }
 
@@ -165,7 +162,7 @@ impl<'a, B: Backend> Open<'a, B> {
         let puts_off = self.desk.puts_off();
         let handler = &mut self.desk.handler;
         handler.is_owed(now);
-        let is_held = handler.is_held || self.is_spent && handler.cost >= LOOP_BUDGET;
+        let is_held = handler.is_held || handler.is_spent && handler.cost >= LOOP_BUDGET;
         (handler.group(is_held), is_held || puts_off)
     }
 
@@ -181,7 +178,7 @@ impl<'a, B: Backend> Open<'a, B> {
     pub(crate) fn end_turn(&mut self, owners: &mut Vec<usize>, slot: usize) -> (u64, bool) {
         self.desk.handler.ring();
         self.desk.handler.client.sits_at(owners, slot);
-        (self.desk.handler.cost, self.is_spent)
+        (self.desk.handler.cost, self.desk.handler.is_spent)
     }
 
     /// Takes a turn: sends what waits while the socket takes it, and where it is to hear, carries on
@@ -205,7 +202,7 @@ impl<'a, B: Backend> Open<'a, B> {
             return Turned::Over;
         }
         if hears {
-            self.is_spent = self.desk.is_spent(end == TurnEnd::More);
+            self.desk.handler.is_spent = self.desk.is_spent(end == TurnEnd::More);
         }
         match end {
             TurnEnd::Idle if self.has_more() => Turned::More,

@@ -39,7 +39,7 @@ const MOST_SAID: usize = 65_536;
 
 /// A socket of which so many bytes were heard within a second may have been full, so that what its client sent behind them came
 /// to it later.
-const FULL_SOCKET: usize = 16_384;
+const FULL_SOCKET: u32 = 16_384;
 
 /// So many times at most what waits in the hub is taken for a part: each takes 65,536 bytes, or all.
 const MOST_TAKES: usize = 32;
@@ -95,6 +95,10 @@ pub(crate) struct SessionDesk<'a, B: Backend> {
     talk: Talk<'a, B>,
     // What was taken from the hub for the client and isn't sent yet.
     outbox: Outbox,
+    // How many units of work are left in this turn.
+    left: usize,
+    // How many bytes of text were heard since it was last asked.
+    heard_bytes: u32,
     /// Something may wait in the hub that was not taken.
     pub(crate) owed: bool,
     // Texts are heard in this turn.
@@ -103,10 +107,6 @@ pub(crate) struct SessionDesk<'a, B: Backend> {
     has_heard: bool,
     // What was heard last was put off.
     has_put_off: bool,
-    // How many units of work are left in it.
-    left: usize,
-    // How many bytes of text were heard since it was last asked.
-    heard_bytes: usize,
 }
 
 impl<'a, B: Backend> Desk for SessionDesk<'a, B> {
@@ -134,7 +134,8 @@ impl<'a, B: Backend> Desk for SessionDesk<'a, B> {
         self.go_on();
         self.owed = true;
         self.has_heard = true;
-        self.heard_bytes = self.heard_bytes.saturating_add(text.len());
+        let bytes = u32::try_from(text.len()).unwrap_or(u32::MAX);
+        self.heard_bytes = self.heard_bytes.saturating_add(bytes);
     }
 
     fn next(&mut self) -> Option<Out> {
@@ -159,22 +160,23 @@ impl<'a, B: Backend> SessionDesk<'a, B> {
                 backend,
                 client: AttachedClient::new(alloc, now),
                 now,
-                has_published: false,
-                is_held: false,
-                is_barred: false,
+                heard: now,
                 cost: 0,
                 expected: 0,
                 turns: 0,
-                heard: now,
+                has_published: false,
+                is_held: false,
+                is_barred: false,
+                is_spent: false,
             },
             talk: Talk::new(backend),
             outbox: Outbox::new(alloc),
+            left: 0,
+            heard_bytes: 0,
             owed: false,
             hears: false,
             has_heard: false,
             has_put_off: false,
-            left: 0,
-            heard_bytes: 0,
         }
     }
 

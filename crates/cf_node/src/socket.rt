@@ -12,16 +12,16 @@ use std::net::Shutdown;
 pub(crate) struct Socket {
     alloc: Global,
     pub(crate) stream: TcpStream,
-    /// What was read before the handshake, to be read once more.
-    pub(crate) early: Vec<u8>,
-    // How much of it was given.
-    given: usize,
     // Whether a read may find something. It spares the reads that would block.
     readable: bool,
     // The peer sends no more, so that only a read tells the end.
     ended: bool,
     // A read has told the end.
     is_at_end: bool,
+    /// What was read before the handshake, to be read once more.
+    pub(crate) early: Vec<u8>,
+    // How much of it was given.
+    given: usize,
 }
 
 impl Socket {
@@ -29,11 +29,11 @@ impl Socket {
         Socket {
             alloc,
             stream,
-            early: Vec::new(alloc),
-            given: 0,
             readable: true,
             ended: false,
             is_at_end: false,
+            early: Vec::new(alloc),
+            given: 0,
         }
     }
 

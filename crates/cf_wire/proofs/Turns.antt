@@ -10,7 +10,7 @@ use Rattle.websocket.specs.declared.error.ProtocolError.TheVariants.{InvalidClos
 use Rattle.tungstenite.specs.Connection.{write_step, close_step}
 use Rattle.tungstenite.specs.Content as content
 use Rattle.tungstenite.specs.Content.{Content, text}
-use Rattle.tungstenite.specs.Failure.{IsIo, WriteFails}
+use Rattle.tungstenite.specs.Failure.{IsIo, IsOutside, WriteFails}
 use Rattle.tungstenite.specs.Socket.{Socket, Reads, Writes, Flushed, content_of}
 use Rattle.tungstenite.specs.declared.message.Message.{Message}
 use Rattle.tungstenite.specs.declared.error.Error.{Error}
@@ -33,6 +33,7 @@ use Rattle.cf_wire.specs.declared.end.WireEnd.{WireEnd}
 use Rattle.cf_wire.specs.declared.end.WireEnd.TheVariants as wire
 use Rattle.cf_wire.specs.declared.end.TurnEnd.{TurnEnd}
 use Rattle.cf_wire.specs.declared.end.TurnEnd.TheVariants as turn
+use Rattle.tungstenite.proofs.SocketLemmas.{writes-sent}
 use Rattle.cf_wire.proofs.Closing.{text_never, close_active, close_never, close_barred}
 
 -- ---- counts
@@ -230,6 +231,16 @@ open_not_after stage e close a b =
 
 -- ---- what the socket answered
 
+io_outside : (e : Error) → IsIo e → IsOutside e
+io_outside (fault.Io cause) h = tt
+io_outside e h = absurd h
+
+io_not_full : (e : Error) → IsIo e → e ≡ WriteBufferFull → ⊥
+io_not_full e h is = subst IsIo is h
+
+io_not_memory : (e : Error) → IsIo e → e ≡ OutOfMemory → ⊥
+io_not_memory e h is = subst IsIo is h
+
 module _ {S : Type 0} where
   pub settles : (contents : S → Option (List ℕ)) (old mid new : Socket S) (out : Out) (stage : Stage)
       (answer : Result (Unit {0}) Error)
@@ -254,21 +265,33 @@ module _ {S : Type 0} where
   certain step e old new (inr (inl outside)) never full memory = absurd outside
   certain step e old new (inr (inr why)) never full memory = absurd (never why.0 why.1)
 
-  pub sends : (contents : S → Option (List ℕ)) (old mid new : Socket S) (what : Content) (close : Option ℕ)
-      (stage : Stage) (answer : Result (Unit {0}) Error)
-      → OnOk answer (Writes contents old mid (write_step old.conn what)) → OnOk answer (mid.output ≡ [])
-      → IfErr answer (WriteFails (write_step old.conn what))
-      → IfErr answer (λ e. e ≡ WriteBufferFull → mid ≡ old)
-      → IfErr answer (λ e. IsIo e → Writes contents old mid (write_step old.conn what))
-      → IfErr answer (λ e. e ≡ OutOfMemory → mid ≡ old)
-      → new ≡ mid → OnOk answer (stage ≡ settled close) → IfErr answer (λ e. stage ≡ stage_after e (Unflushed close))
-      → Sends contents old what close new stage
-  sends contents old mid new what close stage (Ok u) puts empty fault full io memory same ok err =
-      let P : Socket S → Type 0 = λ x. Writes contents old x (write_step old.conn what) in
-      inl (subst P (sym same) puts, ap (λ (s : Socket S). s.output) same ∙ empty, ok)
-  sends contents old mid new what close stage (Err e) puts empty fault full io memory same ok err =
+  -- what a `send` or a `write` promises of an error
+  pub sends_not : (contents : S → Option (List ℕ)) (old mid new : Socket S) (what : Content) (close : Option ℕ)
+      (stage : Stage) (e : Error)
+      → WriteFails (write_step old.conn what) e → (e ≡ WriteBufferFull → mid ≡ old)
+      → (IsIo e → Writes contents old mid (write_step old.conn what)) → (e ≡ OutOfMemory → mid ≡ old)
+      → new ≡ mid → stage ≡ stage_after e (Unflushed close) → Sends contents old what close new stage
+  sends_not contents old mid new what close stage e fault full io memory same ends =
       let P : Socket S → Type 0 = λ x. SendFails contents old (write_step old.conn what) x e in
-      inr (e, subst P (sym same) (fault, full, io, memory), err)
+      inr (e, subst P (sym same) (fault, full, io, memory), ends)
+
+  -- a `write`, and a `flush` behind it
+  pub sends_written : (contents : S → Option (List ℕ)) (old mid new : Socket S) (what : Content) (close : Option ℕ)
+      (stage : Stage) → Writes contents old mid (write_step old.conn what) → Flushed contents mid new
+      → FlushLeaves close new stage → Sends contents old what close new stage
+  sends_written contents old mid new what close stage wrote gone (inl left) =
+      inl (writes-sent contents old mid new (write_step old.conn what) wrote gone, left.0, left.1)
+  sends_written contents old mid new what close stage wrote gone (inr fails) =
+      inr (
+        fails.0,
+        (
+          inr (inl (io_outside fails.0 fails.1)),
+          (λ is. absurd (io_not_full fails.0 fails.1 is)),
+          (λ _. writes-sent contents old mid new (write_step old.conn what) wrote gone),
+          λ is. absurd (io_not_memory fails.0 fails.1 is),
+        ),
+        fails.2,
+      )
 
   -- by what was asked for, where the protocol doesn't refuse that
   settles_sent : (contents : S → Option (List ℕ)) (old new : Socket S) (what : Content) (out : Out) (stage : Stage)

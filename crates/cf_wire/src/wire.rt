@@ -1,5 +1,6 @@
 //! A WebSocket, turn by turn.
 ghost use Rattle.std.specs.Prelude.{◌≡◌, ◌<◌, [], true, false, None, Some, Ok, OnOk, IfErr};
+ghost use Rattle.tungstenite.specs.Content as content;
 ghost use Rattle.tungstenite.specs.Content.{close};
 ghost use Rattle.tungstenite.specs.Socket.{Flushed, Reads, Socket, close_of, content_of};
 ghost use Rattle.cf_queue.specs.declared.queue.Out.TheVariants as out;
@@ -285,6 +286,7 @@ impl<S: Read + Write + Drop> Wire<S> {
     }
 
     /// Sends what the desk gave. Nothing is asked of a connection that can't write.
+    #[inline(always)]
     fn put(&mut self, out: Out) -> Result<(), TurnEnd>
         ensures put { Settles S.contents self.old.socket out self.new.socket self.new.stage }
         ensures kept { PutsOrKeeps S.contents self.old.socket out self.new.socket }
@@ -295,24 +297,49 @@ impl<S: Read + Write + Drop> Wire<S> {
             return Err(self.stop(WireEnd::StreamFault));
         }
         match out {
-            Out::Text(text) => self.send(Message::Text(text), None),
+            Out::Text(text) => self.send(text),
             Out::Close(code) => self.shut(code),
         }
     }
 
-    /// Sends a message, here alone, so that the compiler unfolds the socket's `send`.
-    fn send(&mut self, message: Message, close: Option<u16>) -> Result<(), TurnEnd>
-        ensures sent { Sends S.contents self.old.socket (content_of message) close
-            self.new.socket self.new.stage }
+    /// Sends a text.
+    #[inline(always)]
+    fn send(&mut self, text: Utf8Bytes) -> Result<(), TurnEnd>
+        ensures sent { Sends S.contents self.old.socket (content.text text) None self.new.socket
+            self.new.stage }
         ensures open { OnOk result (self.new.stage ≡ Stage.Open) }
         ensures ends { IfErr result (λ end. Stops end self.new.stage) }
     {
-        let answer = self.socket.send(message);
-        self.settle(answer, close)
+        match self.socket.send(Message::Text(text)) {
+            Ok(()) => {
+                self.stage = Stage::Open;
+                Ok(())
+            }
+            Err(error) => Err(self.pause(error, Stage::Unflushed(None))),
+        }
     }
 
-    /// Asks the socket for a close: by `send`, which changes nothing if it finds the output full, as long as the connection
-    /// can write. Once a read has failed only the socket's `close` still writes.
+    /// Sends a close frame by the two calls that the socket's `send` is made of, so that `send` itself has one caller, and the
+    /// compiler unfolds it where a text is sent.
+    fn send_close(&mut self, frame: CloseFrame, code: u16) -> Result<(), TurnEnd>
+        ensures sent { Sends S.contents self.old.socket (content.close (close_of (Some frame)))
+            (Some code) self.new.socket self.new.stage }
+        ensures open { OnOk result (self.new.stage ≡ Stage.Open) }
+        ensures ends { IfErr result (λ end. Stops end self.new.stage) }
+    {
+        let stage = Stage::Unflushed(Some(code));
+        match self.socket.write(Message::Close(Some(frame))) {
+            Ok(()) => {
+                self.stage = stage;
+                self.flush(Some(code))
+            }
+            Err(error) => Err(self.pause(error, stage)),
+        }
+    }
+
+    /// Asks the socket for a close: as it sends a message, which changes nothing if it finds the output full, as long as the
+    /// connection can write. Once a read has failed only the socket's `close` still writes.
+    #[cold]
     fn shut(&mut self, code: u16) -> Result<(), TurnEnd>
         ensures put { Settles S.contents self.old.socket (out.Close code) self.new.socket
             self.new.stage }
@@ -328,7 +355,7 @@ impl<S: Read + Write + Drop> Wire<S> {
             let barred = Error::Protocol(ProtocolError::InvalidCloseCode(code));
             return self.settle(Err(barred), Some(code));
         }
-        self.send(Message::Close(Some(frame)), Some(code))
+        self.send_close(frame, code)
     }
 
     /// A read failed. The peer is told if it made the error, as far as its socket takes it.
@@ -372,7 +399,7 @@ impl<S: Read + Write + Drop> Wire<S> {
         self.settle(answer, close)
     }
 
-    /// Settles what a `send`, a `close` or a `flush` answered: behind Ok a wire whose close waits is over with its code.
+    /// Settles what a `close` or a `flush` answered: behind Ok a wire whose close waits is over with its code.
     fn settle(&mut self, answer: Result<(), Error>, close: Option<u16>) -> Result<(), TurnEnd>
         ensures same { self.new.socket ≡ self.old.socket }
         ensures ok { OnOk answer (self.new.stage ≡ settled close) }
@@ -393,6 +420,7 @@ impl<S: Read + Write + Drop> Wire<S> {
     }
 
     /// The socket failed: if the stream would block the wire is left at this stage, else it is spent.
+    #[cold]
     fn pause(&mut self, error: Error, stage: Stage) -> TurnEnd
         requires { is_over stage ≡ false }
         ensures same { self.new.socket ≡ self.old.socket }

@@ -48,4 +48,4 @@ returns-clause-put g c =
     let allowed : is_allowed (close_code_of c.args.code) ≡ true =
     cc (same, c.is_allowed.ensures, c.if-not-is_allowed.false) in
     settles_close g.S.Write.contents _ _ c.args.code _ _ (ap content.close c.frame_of-frame.ensures) kept allowed
-    c.send.ensures.sent
+    c.send_close.ensures.sent
