@@ -1,6 +1,6 @@
 -- The pass is put back over the one that stood in for it (`put_over`), and its logs tell if the size is set (`took`).
-use Rattle.cf_commands.proofs.Sizing.{put_over, took}
-use Rattle.cf_commands.proofs.sizes.set_in.Goals as goal
+use Rattle.cf_sizes.proofs.Sizing.{put_over, took}
+use Rattle.cf_sizes.proofs.sizes.set_in.Goals as goal
 
 pub returns-clause-one : goal.returns-clause-one
 returns-clause-one g c = put_over _ _ _ c.args.shard _ _ c.take-pass.ensures.left c.put.ensures.put c.put.ensures.at

@@ -6,7 +6,7 @@ use Rattle.std.proofs.lemmas.List.{get_or-set_other}
 use mathlib.Core.Logic.{dite}
 use native.Mathlib.Decide.{dec_le}
 use Rattle.cf_shard.specs.Shards.{pass_at}
-use Rattle.cf_commands.specs.Sizes.{AreSized, HasFull, IsFullFor}
+use Rattle.cf_sizes.specs.Sizes.{AreSized, HasFull, IsFullFor}
 use Rattle.cf_order.specs.Passes.{PassState, first_pass}
 use Rattle.cf_shard.specs.LogAnswer.{IsSized, RefusesSize}
 use Rattle.cf_shard.specs.declared.refusal.Refused.{Refused}
