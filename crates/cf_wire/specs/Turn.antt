@@ -168,13 +168,13 @@ module _ {S : Type 0} where
   abbrev pub Puts : (S → Option (List ℕ)) → Socket S → Out → Socket S → Type 0
   Puts contents old out new = Writes contents old new (step_of old.conn out)
 
-  -- what a `send` that answered this error left
+  -- what a `send`, or a `write` and a `flush`, that answered this error left
   abbrev pub SendFails : (S → Option (List ℕ)) → Socket S → Result Effect FrameError → Socket S → Error → Type 0
   SendFails contents old step new e =
       WriteFails step e × (e ≡ WriteBufferFull → new ≡ old) × (IsIo e → Writes contents old new step)
       × (e ≡ OutOfMemory → new ≡ old)
 
-  -- a `send` of this message: it is on the stream, or the socket answered an error; and the stage behind it
+  -- a message that was sent so: it is on the stream, or the socket answered an error; and the stage behind it
   abbrev pub Sends : (S → Option (List ℕ)) → Socket S → Content → Option ℕ → Socket S → Stage → Type 0
   Sends contents old what close new stage =
       (Writes contents old new (write_step old.conn what) × (new.output ≡ []) × (stage ≡ settled close))

@@ -2,7 +2,7 @@
 ghost use Rattle.std.specs.Prelude.{◌≡◌, ◌<◌, [], true, false, None, Some, Ok, OnOk, IfErr};
 ghost use Rattle.tungstenite.specs.Content as content;
 ghost use Rattle.tungstenite.specs.Content.{close};
-ghost use Rattle.tungstenite.specs.Socket.{Flushed, Reads, Socket, close_of, content_of};
+ghost use Rattle.tungstenite.specs.Socket.{Flushed, Reads, Socket, close_of};
 ghost use Rattle.cf_queue.specs.declared.queue.Out.TheVariants as out;
 ghost use Rattle.cf_wire.specs.CloseFrame.{frame_of};
 ghost use Rattle.cf_wire.specs.Stages.{is_unflushed, is_over, waits_by, end_by, stage_after, settled, told, code_of_cause, code_of_fault, Agrees, Halts, Stops};
