@@ -285,6 +285,9 @@ impl<'a, B: Backend> Open<'a, B> {
 
 // Writes what was gathered, as far as the socket takes it. `false` where the socket fails.
 fn drains(wire: &mut Wire<Gather<Socket>>) -> bool {
+    if wire.stream().is_drained() {
+        return true;
+    }
     match wire.stream_mut().drain() {
         Ok(()) => true,
         Err(error) => error.kind() == ErrorKind::WouldBlock,

@@ -139,13 +139,11 @@ impl<'a, B: Backend> Desk for SessionDesk<'a, B> {
     }
 
     fn next(&mut self) -> Option<Out> {
-        match self.take()? {
-            Out::Close(code) => {
-                self.handler.sees_close(code);
-                Some(Out::Close(code))
-            }
-            text => Some(text),
+        let out = self.take();
+        if let Some(Out::Close(code)) = &out {
+            self.handler.sees_close(*code);
         }
+        out
     }
 }
 
@@ -198,6 +196,7 @@ impl<'a, B: Backend> SessionDesk<'a, B> {
         if self.talk.session.is_idle() || !self.outbox.is_empty() {
             return;
         }
+        self.owed = true;
         self.go_on();
         self.owed = true;
         self.has_heard = true;
@@ -259,7 +258,9 @@ impl<'a, B: Backend> SessionDesk<'a, B> {
             if self.left == 0 || self.handler.is_closed() || self.talk.session.is_idle() {
                 return;
             }
-            let came = take_over(&self.handler, &mut self.outbox);
+            // Right behind what was sent last nothing is known to wait.
+            let may_wait = part > 0 || self.owed;
+            let came = take_over(&self.handler, &mut self.outbox, may_wait);
             // What waited before the first part isn't what this text brings.
             said = if part == 0 {
                 0
@@ -314,10 +315,17 @@ impl<'a, B: Backend> SessionDesk<'a, B> {
     }
 }
 
-// Takes what waits in the hub for a client. How many bytes of text that is.
-fn take_over<B: Backend>(handler: &CommandHandler<'_, B>, outbox: &mut Outbox) -> usize
+// Takes what waits in the hub for a client, if something may. How many bytes of text that is.
+fn take_over<B: Backend>(
+    handler: &CommandHandler<'_, B>,
+    outbox: &mut Outbox,
+    may_wait: bool,
+) -> usize
     ensures { Grows outbox.old.outs.items outbox.new.outs.items }
 {
+    if !may_wait {
+        return 0;
+    }
     let known = outbox.items().len();
     for _ in 0..MOST_TAKES {
         if !handler.take(outbox) {

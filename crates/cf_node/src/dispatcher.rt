@@ -4,19 +4,22 @@ ghost use Rattle.cf_dispatch.specs.Dispatch.{Dispatches};
 
 use crate::costs::{Reach, bucket_of};
 use crate::gate::{DISPATCHER, Gate};
-use crate::shared::{HubToFill, MANY, Shared};
+use crate::shared::{HubToFill, Shared};
 use cf_dispatch::{Mailbox, pass_on};
 use cf_hub::Delivered;
 use cf_link::Receiver;
 use cf_shard::{Delivery, Naming, ShardWords};
 use std::sync::Wait;
 use std::sync::atomic::{AtomicU64, Ordering};
-use std::thread;
 use std::time::{Clock, Duration};
+use std::{mem, thread};
 
 // How long it sleeps at most where nothing comes, in milliseconds: a program that ends waits for it
 // as long.
 const LONGEST_SLEEP: u64 = 500;
+
+// Once publications, and sessions that they met, are so many, no further one is brought under the same lock.
+const UNDER_ONE_LOCK: u32 = 256;
 
 /// The dispatcher's end of the node's link, and the hub under its lock.
 #[derive(Drop)]
@@ -28,6 +31,8 @@ pub(crate) struct NodeMailbox<'a, R, G, N: Naming, W> {
     shared: &'a Shared<N>,
     // The hub, while more waits to be brought to it.
     hub: Option<HubToFill<'a, N>>,
+    // Somebody got something under it, for whom the IO loop wasn't woken yet.
+    owes_wake: bool,
     // How many publications were brought under this lock, and sessions met them.
     met: u32,
     node: u8,
@@ -51,6 +56,7 @@ impl<'a, R: Wait, G, N: Naming, W> NodeMailbox<'a, R, G, N, W> {
             words,
             shared,
             hub: None,
+            owes_wake: false,
             met: 0,
             node: 0,
             reach: None,
@@ -74,7 +80,16 @@ impl<'a, R: Wait, G, N: Naming, W> NodeMailbox<'a, R, G, N, W> {
     {
         let met = delivered.passed.saturating_add(delivered.kept);
         self.met = self.met.saturating_add(met).saturating_add(1);
-        self.met < MANY && !self.shared.owes_way() && self.receiver.waiting(self.rt) > 0
+        self.met < UNDER_ONE_LOCK && !self.shared.owes_way() && self.receiver.waiting(self.rt) > 0
+    }
+
+    // The hub is let go: the loop is woken for those who got something before this.
+    fn wakes_owed(&mut self)
+        ensures { self.new.receiver ≡ self.old.receiver }
+    {
+        if mem::replace(&mut self.owes_wake, false) {
+            self.shared.wake();
+        }
     }
 }
 
@@ -93,7 +108,7 @@ impl<'a, R: Wait + Clock, G: Gate, N: Naming, W: ShardWords<N>> Mailbox
     // Between two workers no more can be said of the hub.
     ghost brings = { λ old _ _ new. new.receiver ≡ old.receiver };
 
-    ghost wakes = { λ old new. new ≡ old };
+    ghost wakes = { λ old new. new.receiver ≡ old.receiver };
 
     fn receive(&mut self) -> Option<Delivery<N>> {
         self.shared.keep_turn(self.gate.now(self.rt));
@@ -119,12 +134,20 @@ impl<'a, R: Wait + Clock, G: Gate, N: Naming, W: ShardWords<N>> Mailbox
         }
         if self.goes_on(&delivered) {
             self.hub = Some(hub);
+        } else {
+            drop(hub);
+            self.wakes_owed();
         }
         delivered
     }
 
+    // A loop that is woken while the hub is kept from it would wait for that, and be woken once more.
     fn wake(&mut self) {
-        self.shared.wake();
+        if self.hub.is_some() {
+            self.owes_wake = true;
+        } else {
+            self.shared.wake();
+        }
     }
 }
 

@@ -101,6 +101,10 @@ struct IoLoop<'a, B: Backend> {
     debt: u64,
     // The hub may have something for sessions that it wasn't asked for.
     is_behind: bool,
+    // Whether it was asked in this turn of the loop.
+    has_served: bool,
+    // Who is held waits on, as it was before the turn of a connection that is on its way.
+    is_holding: bool,
     // The slots whose sessions the hub has just named.
     batch: Vec<Named>,
     // A buffer for what one turn sends, so that idle connections keep none.
@@ -139,6 +143,8 @@ pub(crate) fn serve<R: Wait + Clock, B: Backend, G: Gate>(
         spent: 0,
         debt: 0,
         is_behind: false,
+        has_served: false,
+        is_holding: false,
         batch: Vec::new(alloc),
         buffer: Vec::new(alloc),
         accepts: Accepts::All,
@@ -209,11 +215,6 @@ fn leaves<'a, B: Backend>(leaving: Option<Leaving>) -> Connection<'a, B> {
     }
 }
 
-// Whether nobody waits in a queue, or only those who are held, where these wait on.
-fn is_idle(queue: &FairQueue, holds: bool) -> bool {
-    queue.is_empty() || holds && queue.is_light_empty()
-}
-
 // Who has the next turn of a queue, if one has.
 fn next_of(queue: &mut FairQueue, holds: bool) -> Option<usize> {
     if holds {
@@ -260,7 +261,7 @@ impl<'a, B: Backend> IoLoop<'a, B> {
             && !self.ticks.is_late();
         let patience = if !is_done {
             0
-        } else if self.cheap.is_empty() && self.dear.is_empty() && self.fresh.is_empty() {
+        } else if self.nobody_waits() {
             PATIENCE
         } else {
             SHORT_PATIENCE
@@ -270,8 +271,17 @@ impl<'a, B: Backend> IoLoop<'a, B> {
 
     // Whether nobody has a turn to come but those who are held.
     fn is_idle(&self) -> bool {
-        let holds = self.holds();
-        is_idle(&self.cheap, holds) && is_idle(&self.dear, holds) && is_idle(&self.fresh, holds)
+        self.nobody_waits() || self.all_are_held() && self.holds()
+    }
+
+    // Whether nobody has a turn to come.
+    fn nobody_waits(&self) -> bool {
+        self.cheap.is_empty() && self.dear.is_empty() && self.fresh.is_empty()
+    }
+
+    // Whether all that have a turn to come are held.
+    fn all_are_held(&self) -> bool {
+        self.cheap.is_light_empty() && self.dear.is_light_empty() && self.fresh.is_light_empty()
     }
 
     // Whether who is held waits on: some node is behind with what was published, or this one with
@@ -280,7 +290,9 @@ impl<'a, B: Backend> IoLoop<'a, B> {
         self.is_behind && self.debt >= LOOP_BUDGET || self.backend.is_crowded()
     }
 
-    // One turn: what is ready is kept, who has a turn to come has it, and then comes a new second.
+    // One turn: what is ready is kept, who has a turn to come has it, and then comes a new second. Those for which the hub has
+    // something are served behind the first who is heard, so that his publications don't go out by two writes each; before all,
+    // where some were left over, and at the end, where nobody was heard.
     fn turn(&mut self, events: &Events, now: u64) {
         if now.saturating_sub(self.now) > SECONDS_HELD_UP {
             self.resumed = now;
@@ -295,9 +307,15 @@ impl<'a, B: Backend> IoLoop<'a, B> {
         if self.accepts == Accepts::More {
             self.accept_some();
         }
-        self.serve_named();
+        self.has_served = false;
+        if self.is_behind {
+            self.serve_named();
+        }
         self.pay();
         self.serve_groups();
+        if !self.has_served {
+            self.serve_named();
+        }
         if !self.is_behind {
             self.backend.shared().catch_up();
         }
@@ -472,10 +490,14 @@ impl<'a, B: Backend> IoLoop<'a, B> {
     // Who has a turn to come has it, group by group. Those who are held have a chance as long as nothing
     // holds them as the turn comes to their group; who fills the links leaves none to those behind.
     fn serve_groups(&mut self) {
+        if self.nobody_waits() {
+            return;
+        }
+        self.is_holding = self.holds();
         let mut group = self.rota.first();
         let mut chances: usize = 0;
         for served in 0..GROUPS {
-            if chances == served && !self.holds() {
+            if chances == served && !self.is_holding {
                 chances = chances.saturating_add(1);
             }
             self.serve_group(group);
@@ -491,7 +513,7 @@ impl<'a, B: Backend> IoLoop<'a, B> {
     fn serve_group(&mut self, group: Group) {
         self.spent = 0;
         for heard in 0..self.queue_of(group).len() {
-            let is_light = self.holds() || self.hears_light(group);
+            let is_light = self.is_holding || self.hears_light(group);
             let Some(slot) = next_of(self.queue_of(group), is_light) else {
                 return;
             };
@@ -525,6 +547,7 @@ impl<'a, B: Backend> IoLoop<'a, B> {
         if heard % HEARD_AT_ONCE == 0 {
             self.serve_named();
         }
+        self.is_holding = self.holds();
         self.spent >= LOOP_BUDGET
     }
 
@@ -562,7 +585,7 @@ impl<'a, B: Backend> IoLoop<'a, B> {
     // on what was published in the turn. The slot is its session's from then on. A turn in which it is
     // heard is charged before another is owed.
     fn serve(&mut self, slot: usize, hears: bool) {
-        let bars = hears && (self.holds() || !self.fresh.is_empty());
+        let bars = hears && (self.is_holding || !self.fresh.is_empty());
         let Some(connection) = self.slots.get_mut(slot) else {
             return;
         };
@@ -635,6 +658,7 @@ impl<'a, B: Backend> IoLoop<'a, B> {
     // What waits for some sessions is taken under one lock of the hub; what a socket has no room for
     // stays there.
     fn serve_named(&mut self) {
+        self.has_served = true;
         self.is_behind = false;
         if self.batch.reserve(SESSIONS_AT_ONCE).is_err() {
             return;

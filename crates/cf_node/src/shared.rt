@@ -26,8 +26,8 @@ const LARGE: usize = 16_384;
 const PACE: usize = 32_768;
 
 /// So many clients keep the dispatcher busy for a while: for what follows a publication that was
-/// pushed to as many it is woken at once, and no further one is brought to the hub under a lock.
-pub(crate) const MANY: u32 = 64;
+/// pushed to as many it is woken at once.
+const MANY: u32 = 64;
 
 /// The most times that it yields to a loop that waits for the hub.
 const MOST_YIELDS: u32 = 1000;

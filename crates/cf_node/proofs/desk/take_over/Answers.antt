@@ -2,6 +2,9 @@
 use Rattle.cf_node.proofs.Growing.{grows_more, grows_none, grows_own}
 use Rattle.cf_node.proofs.desk.take_over.Goals as goal
 
+pub returns-then-not-may_wait : goal.returns-then-not-may_wait
+returns-then-not-may_wait g c = grows_none c.args.outbox.now.outs.items
+
 pub loop-init : goal.loop-init
 loop-init g c = grows_none c.args.outbox.now.outs.items
 
