@@ -198,7 +198,6 @@ impl<'a, B: Backend> SessionDesk<'a, B> {
         }
         self.owed = true;
         self.go_on();
-        self.owed = true;
         self.has_heard = true;
     }
 

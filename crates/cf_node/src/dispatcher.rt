@@ -108,7 +108,8 @@ impl<'a, R: Wait + Clock, G: Gate, N: Naming, W: ShardWords<N>> Mailbox
     // Between two workers no more can be said of the hub.
     ghost brings = { λ old _ _ new. new.receiver ≡ old.receiver };
 
-    ghost wakes = { λ old new. new.receiver ≡ old.receiver };
+    // Whether a wake is still owed may change, and nothing else.
+    ghost wakes = { λ old new. new ≡ record old { owes_wake = new.owes_wake } };
 
     fn receive(&mut self) -> Option<Delivery<N>> {
         self.shared.keep_turn(self.gate.now(self.rt));

@@ -101,8 +101,6 @@ struct IoLoop<'a, B: Backend> {
     debt: u64,
     // The hub may have something for sessions that it wasn't asked for.
     is_behind: bool,
-    // Whether it was asked in this turn of the loop.
-    has_served: bool,
     // Who is held waits on, as it was before the turn of a connection that is on its way.
     is_holding: bool,
     // The slots whose sessions the hub has just named.
@@ -143,7 +141,6 @@ pub(crate) fn serve<R: Wait + Clock, B: Backend, G: Gate>(
         spent: 0,
         debt: 0,
         is_behind: false,
-        has_served: false,
         is_holding: false,
         batch: Vec::new(alloc),
         buffer: Vec::new(alloc),
@@ -290,9 +287,8 @@ impl<'a, B: Backend> IoLoop<'a, B> {
         self.is_behind && self.debt >= LOOP_BUDGET || self.backend.is_crowded()
     }
 
-    // One turn: what is ready is kept, who has a turn to come has it, and then comes a new second. Those for which the hub has
-    // something are served behind the first who is heard, so that his publications don't go out by two writes each; before all,
-    // where some were left over, and at the end, where nobody was heard.
+    // One turn: what is ready is kept, those for which the hub has something are served, who has a turn to come has it, and then
+    // comes a new second.
     fn turn(&mut self, events: &Events, now: u64) {
         if now.saturating_sub(self.now) > SECONDS_HELD_UP {
             self.resumed = now;
@@ -307,15 +303,9 @@ impl<'a, B: Backend> IoLoop<'a, B> {
         if self.accepts == Accepts::More {
             self.accept_some();
         }
-        self.has_served = false;
-        if self.is_behind {
-            self.serve_named();
-        }
+        self.serve_named();
         self.pay();
         self.serve_groups();
-        if !self.has_served {
-            self.serve_named();
-        }
         if !self.is_behind {
             self.backend.shared().catch_up();
         }
@@ -658,7 +648,6 @@ impl<'a, B: Backend> IoLoop<'a, B> {
     // What waits for some sessions is taken under one lock of the hub; what a socket has no room for
     // stays there.
     fn serve_named(&mut self) {
-        self.has_served = true;
         self.is_behind = false;
         if self.batch.reserve(SESSIONS_AT_ONCE).is_err() {
             return;

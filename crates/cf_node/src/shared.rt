@@ -148,7 +148,7 @@ impl<N: Naming> Shared<N> {
 
     /// The IO loop looks: from now on it is woken again.
     pub(crate) fn look(&self) {
-        self.woken.store(0, Ordering::SeqCst);
+        keep(&self.woken, 0);
     }
 
     /// The hub for the dispatcher.
