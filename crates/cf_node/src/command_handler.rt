@@ -29,10 +29,17 @@ const TURNS_TO_KNOW: u32 = 8;
 #[derive(Drop)]
 pub(crate) struct CommandHandler<'a, B: Backend> {
     pub(crate) backend: &'a B,
+    pub(crate) client: AttachedClient<B::Of>,
     /// The moment of the turn, in seconds.
     pub(crate) now: u64,
+    /// When it was heard last, in seconds.
+    pub(crate) heard: u64,
     /// What the turn costs so far in which its client was heard last.
     pub(crate) cost: u64,
+    /// What its turns before were expected to cost, of which half is believed of the next one.
+    pub(crate) expected: u64,
+    /// In how many turns it was heard since it came or was idle.
+    pub(crate) turns: u32,
     /// It published something for which nobody was woken yet.
     pub(crate) has_published: bool,
     /// It published while some node was behind: it goes on once none is.
@@ -42,13 +49,6 @@ pub(crate) struct CommandHandler<'a, B: Backend> {
     pub(crate) is_barred: bool,
     /// The last turn in which texts were heard spent the bounds of one.
     pub(crate) is_spent: bool,
-    /// In how many turns it was heard since it came or was idle.
-    pub(crate) turns: u32,
-    pub(crate) client: AttachedClient<B::Of>,
-    /// When it was heard last, in seconds.
-    pub(crate) heard: u64,
-    /// What its turns before were expected to cost, of which half is believed of the next one.
-    pub(crate) expected: u64,
 }
 
 impl<'a, B: Backend> CommandExecutor for CommandHandler<'a, B> {

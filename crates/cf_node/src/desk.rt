@@ -91,9 +91,14 @@ impl<'a, B: Backend> Talk<'a, B> {
 /// The desk of one connection.
 #[derive(Drop)]
 pub(crate) struct SessionDesk<'a, B: Backend> {
-    // What each turn looks at lies together, since a turn in which something is only sent finds nothing of it in the cache.
+    pub(crate) handler: CommandHandler<'a, B>,
+    talk: Talk<'a, B>,
     // What was taken from the hub for the client and isn't sent yet.
     outbox: Outbox,
+    // How many units of work are left in this turn.
+    left: usize,
+    // How many bytes of text were heard since it was last asked.
+    heard_bytes: u32,
     /// Something may wait in the hub that was not taken.
     pub(crate) owed: bool,
     // Texts are heard in this turn.
@@ -102,12 +107,6 @@ pub(crate) struct SessionDesk<'a, B: Backend> {
     has_heard: bool,
     // What was heard last was put off.
     has_put_off: bool,
-    // How many bytes of text were heard since it was last asked.
-    heard_bytes: u32,
-    // How many units of work are left in this turn.
-    left: usize,
-    pub(crate) handler: CommandHandler<'a, B>,
-    talk: Talk<'a, B>,
 }
 
 impl<'a, B: Backend> Desk for SessionDesk<'a, B> {
