@@ -1,5 +1,5 @@
-//! A client's socket: what came with its head is read first, a read is tried only where it may find
-//! something, and of a peer that has sent much as much is read at once.
+//! A client's socket: what came with its head is read first, and a read is tried only where it may
+//! find something.
 ghost use Rattle.std.specs.Prelude.{◌≤◌, IfOk, length};
 
 use mio::net::TcpStream;
@@ -7,9 +7,6 @@ use std::alloc::Global;
 use std::io;
 use std::io::{ErrorKind, Read, Write};
 use std::net::Shutdown;
-
-/// So many bytes are read at once of a peer that has sent more than a read asks for.
-const AHEAD: usize = 4_096;
 
 #[derive(Drop)]
 pub(crate) struct Socket {
@@ -21,9 +18,7 @@ pub(crate) struct Socket {
     ended: bool,
     // A read has told the end.
     is_at_end: bool,
-    // The last read took as much as it asked for: more may wait.
-    is_full: bool,
-    /// What was read before the handshake, to be read once more, or ahead of what was asked for.
+    /// What was read before the handshake, to be read once more.
     pub(crate) early: Vec<u8>,
     // How much of it was given.
     given: usize,
@@ -37,7 +32,6 @@ impl Socket {
             readable: true,
             ended: false,
             is_at_end: false,
-            is_full: false,
             early: Vec::new(alloc),
             given: 0,
         }
@@ -86,7 +80,6 @@ impl Socket {
         match self.stream.read(room) {
             Ok(count) => {
                 self.is_at_end = count == 0;
-                self.is_full = count == room.len();
                 if count < room.len() && !self.ended {
                     self.readable = false;
                 }
@@ -100,39 +93,14 @@ impl Socket {
             }
         }
     }
-
-    // Reads more than is asked for, to give it by and by. Where memory for that is refused nothing is read ahead.
-    fn read_ahead(&mut self, room: &mut [u8]) -> io::Result<usize>
-        ensures { IfOk result (λ count. count ≤ length room.new) }
-    {
-        let mut ahead = Vec::new(self.alloc);
-        if ahead.reserve(AHEAD).is_err() {
-            return self.read_new(room);
-        }
-        let mut chunk = [0u8; AHEAD];
-        let count = self.read_new(&mut chunk)?;
-        if count >= room.len() {
-            // What comes while this is heard is heard too: a burst is one turn.
-            self.is_full = true;
-            self.readable = true;
-        }
-        let came = chunk.get(..count).unwrap_or(&[]);
-        if ahead.extend_from_slice(came).is_err() {
-            return Err(io::Error::from(ErrorKind::OutOfMemory));
-        }
-        self.early = ahead;
-        Ok(self.read_early(room))
-    }
 }
 
 impl Read for Socket {
     fn read(&mut self, room: &mut [u8]) -> io::Result<usize> {
-        if !self.early.is_empty() {
-            Ok(self.read_early(room))
-        } else if self.is_full && self.readable && room.len() < AHEAD {
-            self.read_ahead(room)
-        } else {
+        if self.early.is_empty() {
             self.read_new(room)
+        } else {
+            Ok(self.read_early(room))
         }
     }
 }
